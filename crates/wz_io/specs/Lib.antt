@@ -1,0 +1,4 @@
+pub mod World
+pub mod Calls
+pub mod Reading
+pub mod Laws

@@ -1,0 +1,17 @@
+//! Files and streams behind traits: one input or one output at a time, and a sink for messages.
+//!
+//! A trait's meaning is a plain record, `World` for `Files` and `Said` for `Sink`, with a count of
+//! faults that never falls. What each call does to it is one record of named parts: `Opens`,
+//! `Reads`, `Creates`, `Writes`, `Closes`, `Puts`. A call answers `Failed` only where the count rose.
+//! `HasFailed` says that one input or output failed. The laws of `laws` join the pieces that are
+//! written to an output.
+//!
+//! `read_all` gives all that is left of an input.
+#![tactic(auto)]
+
+mod files;
+pub mod laws;
+mod reading;
+
+pub use files::{Failed, FileName, Files, OpenFault, Side, Sink};
+pub use reading::{INPUT_LIMIT, ReadAll, read_all};
