@@ -63,7 +63,7 @@ pub record Opens {T : Type 0} (name : Name) (before now : World) (result : Resul
   pub told : now.told ≡ before.told
   pub there : OnOk result (IsThere before.told name)
   pub left : OnOk result (now.left ≡ input_of before.told name)
-  pub kept : IsErrOf result fault.NoMemory → now.left ≡ before.left
+  pub kept : IsErrOf result fault.NoMemory → now ≡ before
   pub reads : now.reads ≡ before.reads
 
 pub record Creates {T : Type 0} (name : Name) (before now : World) (result : Result T OpenFault) : Type 0 where
@@ -71,7 +71,7 @@ pub record Creates {T : Type 0} (name : Name) (before now : World) (result : Res
   pub cause : IsErrOf result fault.Failed → Rose before.faults now.faults
   pub current : now.current ≡ current_after_opening Output name before.current result
   pub told : now.told ≡ told_after_create before.told name result
-  pub kept : IsErrOf result fault.NoMemory → now.left ≡ before.left
+  pub kept : IsErrOf result fault.NoMemory → now ≡ before
   pub reads : now.reads ≡ before.reads
 
 pub record Reads (before now : World) (buffer : List ℕ) (result : Result ℕ Failed) : Type 0 where
