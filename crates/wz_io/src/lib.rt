@@ -6,12 +6,17 @@
 //! `HasFailed` says that one input or output failed. The laws of `laws` join the pieces that are
 //! written to an output.
 //!
-//! `read_all` gives all that is left of an input.
+//! `read_all` gives all that is left of an input. `OsFiles` and `StdSink` are the edge to real files
+//! and streams: they tell no bytes.
 #![tactic(auto)]
 
 mod files;
 pub mod laws;
+mod os_files;
 mod reading;
+mod std_sink;
 
 pub use files::{Failed, FileName, Files, OpenFault, Side, Sink};
+pub use os_files::OsFiles;
 pub use reading::{INPUT_LIMIT, ReadAll, read_all};
+pub use std_sink::StdSink;
