@@ -1,11 +1,11 @@
 -- What the files of the runtime mean: what was opened, and no bytes. These meanings are this tool's
 -- own: the WebAssembly Core Specification doesn't speak of files.
-use Rattle.std.specs.Prelude.{Bool, Option, None, Some, is_some, string_bytes}
-use Rattle.wz_io.specs.World.{World, Told, Name, Standard, File, Current}
+use Rattle.std.specs.Prelude.{Bool, Option, None, Some, is_some}
+use Rattle.wz_io.specs.World.{World, Told, Current}
+use Rattle.wz_io.specs.Names.{owned_name}
 use Rattle.wz_io.specs.declared.files.Side.TheVariants as side
 use Rattle.wz_io.specs.declared.os_files.OsFiles.{OsFiles}
-use Rattle.wz_io.specs.declared.os_files.OpenedName.{OpenedName}
-use Rattle.wz_io.specs.declared.os_files.OpenedName.TheVariants as named
+use Rattle.wz_io.specs.declared.names.OwnedName.{OwnedName}
 use Rattle.wz_io.specs.declared.os_files.Stream.{Stream}
 use Rattle.wz_io.specs.declared.os_files.Stream.TheVariants as stream
 
@@ -13,16 +13,12 @@ use Rattle.wz_io.specs.declared.os_files.Stream.TheVariants as stream
 abbrev pub untold : Told
 untold = record { stdin = None; stdout = None; files = None }
 
-abbrev pub opened_name : OpenedName → Name
-opened_name named.Standard = Standard
-opened_name (named.Path path) = File (string_bytes path)
-
-abbrev pub os_current : {I F : Type 0} → OpenedName → Bool → Stream I F → Option Current
+abbrev pub os_current : {I F : Type 0} → OwnedName → Bool → Stream I F → Option Current
 os_current name failed stream.Nothing = None
 os_current name failed (stream.Input source) =
-    Some (record { side = side.Input; name = opened_name name; opened = is_some source; failed = failed })
+    Some (record { side = side.Input; name = owned_name name; opened = is_some source; failed = failed })
 os_current name failed (stream.Output target) =
-    Some (record { side = side.Output; name = opened_name name; opened = is_some target; failed = failed })
+    Some (record { side = side.Output; name = owned_name name; opened = is_some target; failed = failed })
 
 abbrev pub os_world : {A B C D : Type 0} → OsFiles A B C D → World
 os_world files = record {

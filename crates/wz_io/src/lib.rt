@@ -12,11 +12,19 @@
 
 mod files;
 pub mod laws;
+mod mem_files;
+mod memory;
+mod names;
 mod os_files;
+mod place;
+mod plan;
 mod reading;
 mod std_sink;
+mod stream;
 
 pub use files::{Failed, FileName, Files, OpenFault, Side, Sink};
+pub use mem_files::MemFiles;
 pub use os_files::OsFiles;
+pub use plan::CallKind;
 pub use reading::{INPUT_LIMIT, ReadAll, read_all};
 pub use std_sink::StdSink;

@@ -1,20 +1,13 @@
 //! The files and standard streams of the runtime. They tell no bytes: this is the trusted edge.
 
 ghost use Rattle.std.specs.Prelude.{◌≡◌, ◌≤◌, ◌<◌, length, IfOk};
-ghost use Rattle.wz_io.specs.World.{name_of, Rose};
-ghost use Rattle.wz_io.specs.OsFiles.{opened_name};
 
+use crate::names::{OwnedName, copied};
+use crate::place::{count_fault, put};
 use crate::{Failed, FileName, Files, OpenFault};
-use std::alloc::{AllocError, AllocGlobal};
+use std::alloc::AllocGlobal;
 use std::io::{Input, Print, Read, Write};
 use std::{fs, rt};
-
-// A copy of the name that was opened last.
-#[derive(Drop)]
-enum OpenedName {
-    Standard,
-    Path(String),
-}
 
 #[derive(Drop)]
 enum Source<I, F> {
@@ -41,7 +34,7 @@ enum Stream<I, F> {
 pub struct OsFiles<'r, R: rt::Files + Input> {
     rt: &'r R,
     faults: u64,
-    name: OpenedName,
+    name: OwnedName,
     failed: bool,
     stream: Stream<R::Reader, R::File>,
 }
@@ -55,26 +48,10 @@ impl<'r, R: rt::Files + Input> OsFiles<'r, R> {
         OsFiles {
             rt,
             faults: 0,
-            name: OpenedName::Standard,
+            name: OwnedName::Standard,
             failed: false,
             stream: Stream::Nothing,
         }
-    }
-}
-
-// Lets go of what was there.
-fn put<T: Drop>(place: &mut T, next: T)
-    ensures { place.new ≡ next }
-{
-    *place = next;
-}
-
-fn copied<R: AllocGlobal>(rt: &R, name: FileName<'_>) -> Result<OpenedName, AllocError>
-    ensures { IfOk result (λ copy. opened_name copy ≡ name_of name.entry) }
-{
-    match name {
-        FileName::Standard => Ok(OpenedName::Standard),
-        FileName::Path(path) => Ok(OpenedName::Path(String::from_str(rt.alloc(), path)?)),
     }
 }
 
@@ -136,20 +113,13 @@ fn write_to<R: Print, F: Write>(
     }
 }
 
-fn count(faults: &mut u64)
-    ensures rose { Rose faults.old faults.new }
-    ensures later { faults.old ≤ faults.new }
-{
-    *faults = faults.saturating_add(1);
-}
-
 impl<'r, R: rt::Files + Input + Print + AllocGlobal> Files for OsFiles<'r, R> {
     ghost use Rattle.wz_io.specs.OsFiles.{os_world};
 
     ghost world = { λ files. os_world files };
 
     fn open_input(&mut self, name: FileName<'_>) -> Result<(), OpenFault> {
-        let Ok(copy) = copied(self.rt, name) else {
+        let Ok(copy) = copied(self.rt.alloc(), name) else {
             return Err(OpenFault::NoMemory);
         };
         put(&mut self.stream, Stream::Input(None));
@@ -162,7 +132,7 @@ impl<'r, R: rt::Files + Input + Print + AllocGlobal> Files for OsFiles<'r, R> {
             }
             Err(_) => {
                 self.failed = true;
-                count(&mut self.faults);
+                count_fault(&mut self.faults);
                 Err(OpenFault::Failed)
             }
         }
@@ -176,14 +146,14 @@ impl<'r, R: rt::Files + Input + Print + AllocGlobal> Files for OsFiles<'r, R> {
             Ok(taken) => Ok(taken),
             Err(_) => {
                 self.failed = true;
-                count(&mut self.faults);
+                count_fault(&mut self.faults);
                 Err(Failed)
             }
         }
     }
 
     fn create(&mut self, name: FileName<'_>) -> Result<(), OpenFault> {
-        let Ok(copy) = copied(self.rt, name) else {
+        let Ok(copy) = copied(self.rt.alloc(), name) else {
             return Err(OpenFault::NoMemory);
         };
         put(&mut self.stream, Stream::Output(None));
@@ -196,7 +166,7 @@ impl<'r, R: rt::Files + Input + Print + AllocGlobal> Files for OsFiles<'r, R> {
             }
             Err(_) => {
                 self.failed = true;
-                count(&mut self.faults);
+                count_fault(&mut self.faults);
                 Err(OpenFault::Failed)
             }
         }
@@ -210,7 +180,7 @@ impl<'r, R: rt::Files + Input + Print + AllocGlobal> Files for OsFiles<'r, R> {
             Ok(taken) => Ok(taken),
             Err(_) => {
                 self.failed = true;
-                count(&mut self.faults);
+                count_fault(&mut self.faults);
                 Err(Failed)
             }
         }
