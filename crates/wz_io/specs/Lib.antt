@@ -9,3 +9,4 @@ pub mod Stream
 pub mod OsFiles
 pub mod StdSink
 pub mod MemFiles
+pub mod MemSink

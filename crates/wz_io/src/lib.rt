@@ -6,13 +6,15 @@
 //! `HasFailed` says that one input or output failed. The laws of `laws` join the pieces that are
 //! written to an output.
 //!
-//! `read_all` gives all that is left of an input. `OsFiles` and `StdSink` are the edge to real files
-//! and streams: they tell no bytes.
+//! `read_all` gives all that is left of an input. `MemFiles` and `MemSink` tell everything and fail
+//! where they are asked to. `OsFiles` and `StdSink` are the edge to real files and streams: they tell
+//! no bytes.
 #![tactic(auto)]
 
 mod files;
 pub mod laws;
 mod mem_files;
+mod mem_sink;
 mod memory;
 mod names;
 mod os_files;
@@ -24,6 +26,7 @@ mod stream;
 
 pub use files::{Failed, FileName, Files, OpenFault, Side, Sink};
 pub use mem_files::MemFiles;
+pub use mem_sink::MemSink;
 pub use os_files::OsFiles;
 pub use plan::CallKind;
 pub use reading::{INPUT_LIMIT, ReadAll, read_all};
