@@ -31,3 +31,6 @@ pub use os_files::OsFiles;
 pub use plan::CallKind;
 pub use reading::{INPUT_LIMIT, ReadAll, read_all};
 pub use std_sink::StdSink;
+
+#[cfg(test)]
+mod tests;
