@@ -1,0 +1,4 @@
+pub mod ToldLemmas
+pub mod ReadingLemmas
+pub mod MemoryLemmas
+pub mod StreamLemmas

@@ -1,0 +1,12 @@
+-- A loop of reads, as far as it has come.
+use Rattle.std.proofs.Common.{◌≡◌, ℕ, ◌+◌, ◌≤◌, List, length}
+use Rattle.std.specs.Io.KnownBytes.{prepend_known}
+use Rattle.wz_io.specs.World.{World}
+
+pub record HasRead (limit : ℕ) (before now : World) (all : List ℕ) : Type 0 where
+  pub current : now.current ≡ before.current
+  pub told : now.told ≡ before.told
+  pub later : before.faults ≤ now.faults
+  pub left : before.left ≡ prepend_known all now.left
+  pub small : length all ≤ limit
+  pub reads : now.reads ≤ before.reads + length all

@@ -1,0 +1,12 @@
+pub mod World
+pub mod Calls
+pub mod Reading
+pub mod Laws
+pub mod Names
+pub mod Plan
+pub mod Memory
+pub mod Stream
+pub mod OsFiles
+pub mod StdSink
+pub mod MemFiles
+pub mod MemSink
