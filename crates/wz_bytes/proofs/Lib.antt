@@ -1,0 +1,4 @@
+pub mod ReadingLemmas
+pub mod UnsignedLemmas
+pub mod UnsignedLaws
+pub mod ShortestLemmas

@@ -1,0 +1,5 @@
+pub mod Reading
+pub mod Unsigned
+pub mod Signed
+pub mod Shortest
+pub mod Place

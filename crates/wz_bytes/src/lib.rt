@@ -1,0 +1,9 @@
+//! The bytes of numbers and names in a WebAssembly binary: read exactly, written as short as possible.
+#![tactic(auto)]
+
+mod cursor;
+mod slices;
+mod unsigned;
+
+pub use cursor::Cursor;
+pub use unsigned::{put_unsigned, read_unsigned};
