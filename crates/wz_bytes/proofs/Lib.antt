@@ -1,4 +1,6 @@
 pub mod ReadingLemmas
 pub mod UnsignedLemmas
 pub mod UnsignedLaws
+pub mod SignedLemmas
+pub mod SignedLaws
 pub mod ShortestLemmas

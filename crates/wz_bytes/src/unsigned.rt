@@ -64,10 +64,6 @@ pub fn put_unsigned(out: &mut Vec<u8>, value: u64) -> Result<(), AllocError>
     ensures ok { OnOk result (out.new.items ≡ out.old.items ++ shortest_unsigned value) }
     ensures err { OnErr result (out.new.items ≡ out.old.items) }
 {
-    if value < 128 {
-        out.push(value as u8)?;
-        return Ok(());
-    }
     let (groups, count) = groups_of(value);
     out.extend_from_slice(&groups[..count])
 }
