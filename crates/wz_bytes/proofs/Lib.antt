@@ -4,3 +4,6 @@ pub mod UnsignedLaws
 pub mod SignedLemmas
 pub mod SignedLaws
 pub mod ShortestLemmas
+pub mod ShortestLaws
+pub mod FormLaws
+pub mod NameLaws

@@ -1,8 +1,8 @@
 -- Steps and choices of a reading, and what its exactness gives for any form.
-use Rattle.std.proofs.Common.{◌≡◌, ℕ, List, ◌++◌, Option, Some, None, Bool, true, false, cond, refl, sym, ap, ◌∙◌, subst, length, take, drop, ◌-◌, ◌+◌, ◌<◌, arith, ◌⊎◌, inl, inr}
+use Rattle.std.proofs.Common.{◌≡◌, ℕ, ◌≤◌, List, [], ◌++◌, Option, Some, None, Bool, true, false, cond, refl, sym, ap, ◌∙◌, subst, length, take, drop, ◌-◌, ◌+◌, ◌<◌, arith, ◌⊎◌, inl, inr}
 use Rattle.std.specs.Prelude.{slice_range}
-use Rattle.std.proofs.lemmas.List.{length-append, length-drop, drop-drop, take_at, drop_at, append_cancel_right}
-use Rattle.wz_bytes.specs.Reading.{◌>>=◌, NoFront, IsExact, OneFront}
+use Rattle.std.proofs.lemmas.List.{append-nil, length-append, length-drop, drop-drop, take_at, drop_at, append_cancel_right}
+use Rattle.wz_bytes.specs.Reading.{◌>>=◌, Front, NoFront, IsExact, OneFront}
 
 -- the value of a step that gave one
 pub bind_some : {A B : Type 0} (r : Option A) (f : A → Option B) (y : B) → (r >>= f) ≡ Some y → (x : A) × (r ≡ Some x) × (f x ≡ Some y)
@@ -71,3 +71,41 @@ read_at Spells read exact bytes at piece x rest is shorter e =
 pub none_at : {X : Type 0} (Spells : List ℕ → X → Type 0) (read : List ℕ → Option (X × List ℕ)) → IsExact Spells read
     → (bytes : List ℕ) (at : ℕ) (piece : List ℕ) → piece ≡ drop at bytes → None ≡ read piece → NoFront Spells (drop at bytes)
 none_at Spells read exact bytes at piece is e = none_stands Spells read exact (drop at bytes) (ap read (sym is) ∙ sym e)
+
+-- ---- choices and whole texts, for readings of any form
+
+-- what is read there is spelled there
+abbrev pub Finds : {X : Type 0} → (List ℕ → X → Type 0) → List ℕ → Option (X × List ℕ) → Type 0
+Finds {X = X} Spells bytes read = (x : X) (rest : List ℕ) → read ≡ Some (x, rest) → Front Spells bytes x rest
+
+-- one case more in front of the others
+pub found_or : {X : Type 0} (Spells : List ℕ → X → Type 0) (bytes : List ℕ) (test : Bool) (this others : Option (X × List ℕ))
+    → (test ≡ true → Finds Spells bytes this) → (test ≡ false → Finds Spells bytes others) → Finds Spells bytes (cond test this others)
+found_or Spells bytes test this others one more x rest e = elim (chosen test this others _ e) [ inl y ↦ one y.0 x rest y.1 | inr n ↦ more n.0 x rest n.1 ]
+
+pub found_none : {X : Type 0} (Spells : List ℕ → X → Type 0) (bytes : List ℕ) → Finds Spells bytes None
+found_none Spells bytes x rest e = absurd cc
+
+-- what was read of all the bytes is spelled by them
+pub whole_found : {X : Type 0} (Spells : List ℕ → X → Type 0) (read : List ℕ → Option (X × List ℕ)) → IsExact Spells read
+    → (bytes rest : List ℕ) (x : X) → read bytes ≡ Some (x, rest) → rest ≡ [] → Spells bytes x
+whole_found Spells read exact bytes rest x e none =
+    let f = exact.found bytes x rest e in
+    let whole : f.text ≡ bytes = sym (f.parts ∙ ap (λ (t : List ℕ). f.text ++ t) none ∙ append-nil f.text) in
+    subst (λ (t : List ℕ). Spells t x) whole f.spelled
+
+-- where nothing is read, all the bytes spell nothing
+pub whole_none : {X : Type 0} (Spells : List ℕ → X → Type 0) (read : List ℕ → Option (X × List ℕ)) → IsExact Spells read
+    → (bytes : List ℕ) → read bytes ≡ None → (x : X) → Spells bytes x → ⊥
+whole_none Spells read exact bytes none x h = none_stands Spells read exact bytes none bytes [] x h (sym (append-nil bytes))
+
+-- bytes that have a value and a rest are no spelling as a whole
+pub whole_rest : {X : Type 0} (Spells : List ℕ → X → Type 0) (read : List ℕ → Option (X × List ℕ)) → IsExact Spells read
+    → (bytes rest : List ℕ) (x : X) → read bytes ≡ Some (x, rest) → (rest ≡ [] → ⊥) → (y : X) → Spells bytes y → ⊥
+whole_rest Spells read exact bytes rest x e some y h =
+    let again : read bytes ≡ Some (y, []) = ap read (sym (append-nil bytes)) ∙ exact.again bytes y [] h in
+    some (ap (λ p. p.1) (some_is _ _ (sym e ∙ again)))
+
+-- what is behind a front is no longer than all of it
+pub rest_no_longer : {X : Type 0} (Spells : List ℕ → X → Type 0) (bytes : List ℕ) (x : X) (rest : List ℕ) → Front Spells bytes x rest → length rest ≤ length bytes
+rest_no_longer Spells bytes x rest f = omega (arith, ap length f.parts, length-append f.text rest)

@@ -28,14 +28,18 @@ at_most_count bits count n most few below big = elim (cases_lt count 9) [ inl le
 
 -- ---- unsigned
 
-unsigned_groups-more : (more n : ℕ) → 128 ≤ n → unsigned_groups (suc more) n ≡ (n % 128 + 128) ∷ unsigned_groups more (n / 128)
+pub unsigned_groups-more : (more n : ℕ) → 128 ≤ n → unsigned_groups (suc more) n ≡ (n % 128 + 128) ∷ unsigned_groups more (n / 128)
 unfolding unsigned_groups
 unsigned_groups-more more n h = let big = le-ltb _ _ h in rw big refl
 
-unsigned_groups-last : (more n : ℕ) → n < 128 → unsigned_groups more n ≡ n ∷ []
+pub unsigned_groups-last : (more n : ℕ) → n < 128 → unsigned_groups more n ≡ n ∷ []
 unfolding unsigned_groups
 unsigned_groups-last zero n h = refl
 unsigned_groups-last (suc more) n h = let small = lt-ltb _ _ h in rw small refl
+
+pub unsigned_groups-zero : (n : ℕ) → unsigned_groups zero n ≡ n ∷ []
+unfolding unsigned_groups
+unsigned_groups-zero n = refl
 
 -- one group is written, and the rest of the number is left
 pub unsigned_step : (groups : List ℕ) (count n : ℕ) → count < 9 → count < length groups → 128 ≤ n
@@ -78,14 +82,18 @@ pub large : (z : ℤ) → is_one_group z ≡ false → 64 ≤ size_of z
 large (pos n) e = ltb-false _ _ e
 large (negsuc n) e = ltb-false _ _ e
 
-signed_groups-more : (more : ℕ) (z : ℤ) → is_one_group z ≡ false → signed_groups (suc more) z ≡ (low_group z + 128) ∷ signed_groups more (high_groups z)
+pub signed_groups-more : (more : ℕ) (z : ℤ) → is_one_group z ≡ false → signed_groups (suc more) z ≡ (low_group z + 128) ∷ signed_groups more (high_groups z)
 unfolding signed_groups
 signed_groups-more more z h = rw h refl
 
-signed_groups-last : (more : ℕ) (z : ℤ) → is_one_group z ≡ true → signed_groups more z ≡ low_group z ∷ []
+pub signed_groups-last : (more : ℕ) (z : ℤ) → is_one_group z ≡ true → signed_groups more z ≡ low_group z ∷ []
 unfolding signed_groups
 signed_groups-last zero z h = refl
 signed_groups-last (suc more) z h = rw h refl
+
+pub signed_groups-zero : (z : ℤ) → signed_groups zero z ≡ low_group z ∷ []
+unfolding signed_groups
+signed_groups-zero z = refl
 
 pub signed_step : (groups : List ℕ) (count : ℕ) (z : ℤ) → count < 9 → count < length groups → is_one_group z ≡ false
     → take (count + 1) (set groups count (low_group z + 128)) ++ signed_groups (9 - (count + 1)) (high_groups z) ≡ take count groups ++ signed_groups (9 - count) z

@@ -1,9 +1,12 @@
 -- The reading of signed integers is exact.
-use Rattle.std.proofs.Common.{◌≡◌, ℕ, ℤ, pos, ◌+◌, ◌-◌, ◌^◌, ◌<◌, ◌≤◌, ◌-ℤ◌, List, [], ◌∷◌, ◌++◌, Option, Some, None, Bool, true, false, cond, ltb, refl, sym, ap, subst, ◌∙◌, arith, inl, inr}
+use Rattle.std.proofs.Common.{◌≡◌, length, ◌*◌, ℕ, ℤ, pos, ◌+◌, ◌-◌, ◌^◌, ◌<◌, ◌≤◌, ◌-ℤ◌, List, [], ◌∷◌, ◌++◌, Option, Some, None, Bool, true, false, cond, ltb, refl, sym, ap, subst, ◌∙◌, arith, inl, inr}
 use Rattle.std.specs.Prelude.{nat_le}
 use Rattle.std.proofs.lemmas.Bool.{lt-ltb, le-leb, leb-true, ltb-true, ltb-false, le-ltb}
 use Rattle.wz_bytes.specs.Reading.{◌>>=◌, Front, IsExact}
 use Rattle.wz_bytes.specs.Signed.{IsSigned, last_group, signed_at}
+use Rattle.std.proofs.lemmas.Int.{ints}
+use Rattle.wz_bytes.specs.Signed.{IsWithin}
+use Rattle.wz_bytes.proofs.SignedLemmas.{within_more}
 use Rattle.wz_bytes.proofs.ReadingLemmas.{bind_some, some_is, chosen, guarded}
 
 -- what a last byte stands for, as the grammar's first two rules have it
@@ -74,3 +77,18 @@ signed_again bits (b ∷ text) z rest (inr (inr h)) =
 
 pub signed_exact : (bits : ℕ) → IsExact (λ t z. IsSigned bits t z) (λ bytes. signed_at bits bytes)
 signed_exact bits = record { found = signed_found bits; again = signed_again bits }
+
+pub signed_within : (bits : ℕ) (text : List ℕ) (z : ℤ) → 1 ≤ bits → IsSigned bits text z → IsWithin bits z
+signed_within bits [] z some h = absurd h
+signed_within bits (b ∷ text) z some (inl h) = rw h.3 (omega (arith, ints), omega (arith, ints, h.2))
+signed_within bits (b ∷ text) z some (inr (inl h)) = (omega (arith, ints, h.4, h.3, h.2), omega (arith, ints, h.4, h.3, h.2))
+signed_within bits (b ∷ text) z some (inr (inr h)) =
+    rw h.4 (within_more bits h.3 (b - 128) h.2 (omega (arith, h.1)) (signed_within (bits - 7) text h.3 (omega (arith, h.2)) h.5))
+
+pub signed_short : (bits : ℕ) (text : List ℕ) (z : ℤ) → 1 ≤ bits → IsSigned bits text z → 7 * length text < bits + 7
+signed_short bits [] z some h = absurd h
+signed_short bits (b ∷ text) z some (inl h) = rw h.0 (omega arith)
+signed_short bits (b ∷ text) z some (inr (inl h)) = rw h.0 (omega arith)
+signed_short bits (b ∷ text) z some (inr (inr h)) =
+    let rest = signed_short (bits - 7) text h.3 (omega (arith, h.2)) h.5 in
+    omega (arith, rest, h.2)

@@ -1,5 +1,5 @@
 -- The reading of unsigned integers is exact.
-use Rattle.std.proofs.Common.{◌≡◌, ℕ, ◌-◌, ◌^◌, ◌<◌, List, [], ◌∷◌, ◌++◌, Some, ltb, refl, sym, ap, subst, arith, inl, inr}
+use Rattle.std.proofs.Common.{◌≡◌, length, ℕ, ◌-◌, ◌^◌, ◌+◌, ◌*◌, ◌<◌, ◌≤◌, List, [], ◌∷◌, ◌++◌, Some, ltb, refl, sym, ap, subst, arith, inl, inr}
 use Rattle.std.proofs.lemmas.Bool.{lt-ltb, ltb-true, ltb-false, le-ltb}
 use Rattle.wz_bytes.specs.Reading.{Front, IsExact}
 use Rattle.wz_bytes.specs.Unsigned.{IsUnsigned, unsigned_at}
@@ -51,3 +51,10 @@ unsigned_below bits (b ∷ text) n (inl h) = rw h.3 h.2
 unsigned_below bits (b ∷ text) n (inr h) =
     let s = scaled bits h.3 h.2 (unsigned_below (bits - 7) text h.3 h.5) in
     omega (arith, s, h.4, h.1)
+
+pub unsigned_short : (bits : ℕ) (text : List ℕ) (n : ℕ) → 1 ≤ bits → IsUnsigned bits text n → 7 * length text < bits + 7
+unsigned_short bits [] n some h = absurd h
+unsigned_short bits (b ∷ text) n some (inl h) = rw h.0 (omega arith)
+unsigned_short bits (b ∷ text) n some (inr h) =
+    let rest = unsigned_short (bits - 7) text h.3 (omega (arith, h.2)) h.5 in
+    omega (arith, rest, h.2)

@@ -1,5 +1,5 @@
 -- Where a cursor is in its bytes, and what it takes off them.
-use Rattle.std.specs.Prelude.{◌≡◌, ℕ, List, [], ◌∷◌, length, take, drop, nat_lt, if◌then◌else◌, Option, Some, None}
+use Rattle.std.specs.Prelude.{◌≡◌, ℕ, List, Option, Some, None}
 use Rattle.wz_bytes.specs.Reading.{Front}
 
 -- how many bytes there were, and those that are left
@@ -15,18 +15,3 @@ Passes Spells x old new = Front Spells old.left x new.left × (new.total ≡ old
 abbrev pub Moves : {X Y : Type 0} → (Y → X) → Option Y → Place → Place → Option (X × List ℕ) → Type 0
 Moves view None old new read = (read ≡ None) × (new ≡ old)
 Moves view (Some y) old new read = (read ≡ Some (view y, new.left)) × (new.total ≡ old.total)
-
--- one byte, as itself
-abbrev pub IsByte : List ℕ → ℕ → Type 0
-IsByte text b = text ≡ b ∷ []
-
-abbrev pub byte_at : List ℕ → Option (ℕ × List ℕ)
-byte_at [] = None
-byte_at (b ∷ bytes) = Some (b, bytes)
-
--- so many bytes, as themselves
-abbrev pub IsPiece : ℕ → List ℕ → List ℕ → Type 0
-IsPiece n text piece = (text ≡ piece) × (length piece ≡ n)
-
-abbrev pub piece_at : ℕ → List ℕ → Option (List ℕ × List ℕ)
-piece_at n bytes = if nat_lt (length bytes) n then None else Some (take n bytes, drop n bytes)

@@ -1,9 +1,12 @@
 ghost use Rattle.std.specs.Prelude.{◌≡◌, ◌<◌, ◌≤◌, ◌+◌, ℕ, List, [], length, take, drop, IfSome, IsNone, IfNone};
-ghost use Rattle.std.specs.Option.{option_map};
 ghost use Rattle.wz_bytes.specs.Reading.{NoFront};
 ghost use Rattle.wz_bytes.specs.Unsigned.{IsUnsigned, unsigned_at};
-ghost use Rattle.wz_bytes.specs.Place.{Place, IsByte, IsPiece, byte_at, piece_at, Moves, Passes};
+ghost use Rattle.wz_bytes.specs.Forms.{IsByte, IsPiece, byte_at, piece_at};
+ghost use Rattle.wz_bytes.specs.Name.{IsName, name_at};
+ghost use Rattle.wz_bytes.specs.Place.{Place, Moves, Passes};
 
+use crate::names::front_name;
+use crate::slices::piece;
 use crate::unsigned::read_unsigned;
 use std::marker::Model;
 
@@ -70,10 +73,7 @@ impl<'a> Cursor<'a> {
         ensures stays { IfNone result (self.new ≡ self.old) }
         ensures exact { Moves (λ piece. piece.now) result self.old self.new (piece_at n self.old.left) }
     {
-        if n > self.left.len() {
-            return None;
-        }
-        let (piece, rest) = self.left.split_at(n);
+        let (piece, rest) = piece(self.left, n)?;
         self.left = rest;
         Some(piece)
     }
@@ -88,5 +88,17 @@ impl<'a> Cursor<'a> {
         let (value, end) = read_unsigned::<32>(self.left, 0)?;
         self.left = &self.left[end..];
         Some(value as u32)
+    }
+
+    /// Takes a name.
+    pub fn name(&mut self) -> Option<&'a str>
+        ensures found { IfSome result (λ name. Passes IsName name.now self.old self.new) }
+        ensures none { IsNone result → NoFront IsName self.old.left }
+        ensures stays { IfNone result (self.new ≡ self.old) }
+        ensures exact { Moves (λ name. name.now) result self.old self.new (name_at self.old.left) }
+    {
+        let (name, rest) = front_name(self.left)?;
+        self.left = rest;
+        Some(name)
     }
 }
