@@ -1,0 +1,9 @@
+pub mod ReadingLemmas
+pub mod UnsignedLemmas
+pub mod UnsignedLaws
+pub mod SignedLemmas
+pub mod SignedLaws
+pub mod ShortestLemmas
+pub mod ShortestLaws
+pub mod FormLaws
+pub mod NameLaws

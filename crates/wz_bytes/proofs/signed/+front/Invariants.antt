@@ -1,0 +1,5 @@
+use Rattle.std.proofs.Common.{length}
+use Rattle.wz_bytes.proofs.signed.+front.Given as goal
+
+abbrev pub decreases-front : goal.decreases-front
+decreases-front l = length l.bytes.now

@@ -1,0 +1,25 @@
+use Rattle.std.proofs.Common.{ap, ◌∙◌, ℕ, List, Some, SFits, w64, rules}
+use Rattle.std.proofs.lemmas.Int.{to_z-of_z}
+use Rattle.wz_bytes.specs.Signed.{IsSigned, signed_at}
+use Rattle.wz_bytes.proofs.ReadingLemmas.{none_at, read_at}
+use Rattle.wz_bytes.proofs.SignedLaws.{signed_exact}
+use Rattle.wz_bytes.proofs.signed.read_signed.Goals as goal
+
+pub returns-in_err-value-clause-none : goal.returns-in_err-value-clause-none
+returns-in_err-value-clause-none g c = λ _. none_at (λ t n. IsSigned g.row.BITS t n) (λ b. signed_at g.row.BITS b) (signed_exact g.row.BITS)
+    c.args.bytes.now c.args.at c.from_place.result.now c.from_place.ensures c.in_err-value.ensures.exact
+
+pub returns-clause-found : goal.returns-clause-found
+returns-clause-found g c =
+    let fits : SFits w64 c.in_ok-value.value = search rules in
+    let same = to_z-of_z w64 c.in_ok-value.value fits in
+    rw same (read_at (λ t n. IsSigned g.row.BITS t n) (λ b. signed_at g.row.BITS b) (signed_exact g.row.BITS)
+    c.args.bytes.now c.args.at c.from_place.result.now c.in_ok-value.value c.in_ok-value.rest.now c.from_place.ensures c.in_ok-value.ensures.shorter c.in_ok-value.ensures.exact).spelled
+
+pub returns-clause-exact : goal.returns-clause-exact
+returns-clause-exact g c =
+    let read = read_at (λ t n. IsSigned g.row.BITS t n) (λ b. signed_at g.row.BITS b) (signed_exact g.row.BITS)
+    c.args.bytes.now c.args.at c.from_place.result.now c.in_ok-value.value c.in_ok-value.rest.now c.from_place.ensures c.in_ok-value.ensures.shorter c.in_ok-value.ensures.exact in
+    let fits : SFits w64 c.in_ok-value.value = search rules in
+    let same = to_z-of_z w64 c.in_ok-value.value fits in
+    rw same (ap (λ (t : List ℕ). Some (c.in_ok-value.value, t)) read.behind ∙ c.in_ok-value.ensures.exact ∙ ap (λ (t : List ℕ). signed_at g.row.BITS t) c.from_place.ensures)
