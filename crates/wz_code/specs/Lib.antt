@@ -1,2 +1,6 @@
 pub mod Numeric
 pub mod Accesses
+pub mod BodyParts
+pub mod Trees
+pub mod BlockRule
+pub mod Walking

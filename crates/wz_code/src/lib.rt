@@ -2,9 +2,11 @@
 #![tactic(auto)]
 
 mod accesses;
+mod body;
 mod instr;
 mod numeric;
 
 pub use accesses::{AccessShape, MemOp, access};
+pub use body::{Body, BodyBuilder};
 pub use instr::{Instr, Shape};
 pub use numeric::{NumOp, OpTypes, from_opcode, opcode, signature};
