@@ -1,3 +1,5 @@
 pub mod TreeLemmas
 pub mod RuleLemmas
 pub mod BodyLemmas
+pub mod LawLemmas
+pub mod WalkLemmas

@@ -1,5 +1,5 @@
 -- How the block rule is kept while a body is built.
-use Rattle.std.proofs.Common.{◌≡◌, ◌≢◌, ℕ, zero, suc, ◌+◌, ◌-◌, ◌<◌, ◌≤◌, List, [], ◌∷◌, ◌++◌, Option, Some, None, Bool, true, false, cond, length, take, drop, set, refl, sym, ap, subst, ◌∙◌, arith, ◌⊎◌, inl, inr}
+use Rattle.std.proofs.Common.{◌≡◌, ◌≢◌, ℕ, zero, suc, ◌+◌, ◌<◌, ◌≤◌, List, [], ◌∷◌, ◌++◌, Bool, true, false, cond, length, take, drop, set, refl, sym, ap, subst, ◌∙◌, arith, inl, inr}
 use Rattle.std.specs.Prelude.{nat_eq, nat_lt}
 use Rattle.std.proofs.lemmas.List.{length-set, length-append, length-drop, take-append-le, drop-append-le}
 use Rattle.std.proofs.lemmas.Bool.{eq-eqb, cases_eq, cases_lt, le-ltb}
@@ -7,9 +7,9 @@ use Rattle.wz_types.specs.declared.types.ValType.{ValType}
 use Rattle.wz_code.specs.declared.instr.Instr.{Instr}
 use Rattle.wz_code.specs.declared.instr.Instr.TheVariants.{BrTable, SelectTyped}
 use Rattle.wz_code.specs.BodyParts.{Blocks, block_at, put_instr, instr_count}
-use Rattle.wz_code.specs.Trees.{Leaf, TableBranch, TypedSelect, leaf_of}
-use Rattle.wz_code.specs.BlockRule.{Every, named, Names, times, namings, all_namings, NamesRise, EachOnce, NamesNot, InPools, PoolRule}
-use Rattle.wz_code.proofs.TreeLemmas.{every-of, every-push, at_same, at_other, at_new}
+use Rattle.wz_code.specs.Trees.{TableBranch, TypedSelect, leaf_of}
+use Rattle.wz_code.specs.BlockRule.{Every, named, Names, times, namings, all_namings, NamesRise, EachOnce, NamesNot, InPools}
+use Rattle.wz_code.proofs.TreeLemmas.{every-push, at_same, at_other, at_new}
 
 -- ---- a fact of each block, where one block or the list of blocks grows
 

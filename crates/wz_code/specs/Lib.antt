@@ -4,3 +4,4 @@ pub mod BodyParts
 pub mod Trees
 pub mod BlockRule
 pub mod Walking
+pub mod Laws

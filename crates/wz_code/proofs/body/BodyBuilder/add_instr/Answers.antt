@@ -1,6 +1,5 @@
-use Rattle.std.proofs.Common.{◌≡◌, ◌<◌, ◌-◌, ◌∷◌, ◌∙◌, List, length, sym, ap, subst, rules, arith}
+use Rattle.std.proofs.Common.{◌<◌, ◌-◌, ◌∷◌, ◌∙◌, length, sym, ap, subst, rules, arith}
 use Rattle.std.proofs.lemmas.Result.{err_from_is_err_and}
-use Rattle.wz_code.specs.declared.instr.Instr.{Instr}
 use Rattle.wz_code.specs.BodyParts.{BodyParts, Blocks, block_at, with_instr}
 use Rattle.wz_code.proofs.BodyLemmas.{block-other, put-other, kept-other}
 use Rattle.wz_code.proofs.body.BodyBuilder.add_instr.Goals as goal
