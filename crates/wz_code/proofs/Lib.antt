@@ -3,3 +3,6 @@ pub mod RuleLemmas
 pub mod BodyLemmas
 pub mod LawLemmas
 pub mod WalkLemmas
+pub mod FindLemmas
+pub mod NumericLemmas
+pub mod AccessLemmas

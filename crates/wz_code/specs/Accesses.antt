@@ -1,5 +1,5 @@
 -- Section 5.4.6 of the Core Specification (which opcode stands for which access of a memory), with the types and widths of sections 3.3.7 and 4.4.7.
-use Rattle.std.specs.Prelude.{ℕ, true, false}
+use Rattle.std.specs.Prelude.{◌≡◌, ℕ, Bool, true, false, ◌==◌, find, List, [], ◌∷◌, Option, Some, None}
 use Rattle.wz_types.specs.declared.types.ValType.{ValType}
 use Rattle.wz_types.specs.declared.types.ValType.TheVariants.{I32, I64, F32, F64}
 use Rattle.wz_code.specs.declared.accesses.MemOp.{MemOp}
@@ -54,3 +54,24 @@ access_opcode_of op = (access_row_of op).opcode
 
 abbrev pub shape_of : MemOp → AccessShape
 shape_of op = (access_row_of op).shape
+
+-- ---- from an opcode to the access
+
+-- all accesses, in the order of the table
+abbrev pub all_accesses : List MemOp
+all_accesses =
+    op.I32Load ∷ op.I64Load ∷ op.F32Load ∷ op.F64Load ∷ op.I32Load8S ∷ op.I32Load8U ∷ op.I32Load16S ∷
+    op.I32Load16U ∷ op.I64Load8S ∷ op.I64Load8U ∷ op.I64Load16S ∷ op.I64Load16U ∷ op.I64Load32S ∷ op.I64Load32U ∷
+    op.I32Store ∷ op.I64Store ∷ op.F32Store ∷ op.F64Store ∷ op.I32Store8 ∷ op.I32Store16 ∷ op.I64Store8 ∷
+    op.I64Store16 ∷ op.I64Store32 ∷ []
+
+-- the access of the row that has this opcode
+unfoldable pub access_at : ℕ → Option MemOp
+access_at byte = find (λ op. access_opcode_of op == byte) all_accesses
+
+-- the table read backwards is the table
+abbrev pub NamesAccess : Type 0
+NamesAccess = (byte : ℕ) (op : MemOp) → access_at byte ≡ Some op → access_opcode_of op ≡ byte
+
+abbrev pub AccessNamed : Type 0
+AccessNamed = (op : MemOp) → access_at (access_opcode_of op) ≡ Some op

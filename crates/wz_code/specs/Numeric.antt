@@ -1,5 +1,5 @@
 -- Section 5.4.7 of the Core Specification (which opcode stands for which numeric instruction), with the types of section 3.3.1.
-use Rattle.std.specs.Prelude.{ℕ, Option, Some, None}
+use Rattle.std.specs.Prelude.{◌≡◌, ℕ, Bool, true, false, ◌==◌, ◌&&◌, find, List, [], ◌∷◌, Option, Some, None}
 use Rattle.wz_types.specs.declared.types.ValType.{ValType}
 use Rattle.wz_types.specs.declared.types.ValType.TheVariants.{I32, I64, F32, F64}
 use Rattle.wz_code.specs.declared.numeric.NumOp.{NumOp}
@@ -158,3 +158,49 @@ opcode_of op = (row_of op).opcode
 
 abbrev pub types_of : NumOp → OpTypes
 types_of op = (row_of op).types
+
+-- ---- from an opcode to the operation
+
+-- all operations, in the order of the table
+abbrev pub operations : List NumOp
+operations =
+    op.I32Eqz ∷ op.I32Eq ∷ op.I32Ne ∷ op.I32LtS ∷ op.I32LtU ∷ op.I32GtS ∷ op.I32GtU ∷ op.I32LeS ∷ op.I32LeU ∷
+    op.I32GeS ∷ op.I32GeU ∷ op.I64Eqz ∷ op.I64Eq ∷ op.I64Ne ∷ op.I64LtS ∷ op.I64LtU ∷ op.I64GtS ∷ op.I64GtU ∷
+    op.I64LeS ∷ op.I64LeU ∷ op.I64GeS ∷ op.I64GeU ∷ op.F32Eq ∷ op.F32Ne ∷ op.F32Lt ∷ op.F32Gt ∷ op.F32Le ∷
+    op.F32Ge ∷ op.F64Eq ∷ op.F64Ne ∷ op.F64Lt ∷ op.F64Gt ∷ op.F64Le ∷ op.F64Ge ∷ op.I32Clz ∷ op.I32Ctz ∷
+    op.I32Popcnt ∷ op.I32Add ∷ op.I32Sub ∷ op.I32Mul ∷ op.I32DivS ∷ op.I32DivU ∷ op.I32RemS ∷ op.I32RemU ∷
+    op.I32And ∷ op.I32Or ∷ op.I32Xor ∷ op.I32Shl ∷ op.I32ShrS ∷ op.I32ShrU ∷ op.I32Rotl ∷ op.I32Rotr ∷
+    op.I64Clz ∷ op.I64Ctz ∷ op.I64Popcnt ∷ op.I64Add ∷ op.I64Sub ∷ op.I64Mul ∷ op.I64DivS ∷ op.I64DivU ∷
+    op.I64RemS ∷ op.I64RemU ∷ op.I64And ∷ op.I64Or ∷ op.I64Xor ∷ op.I64Shl ∷ op.I64ShrS ∷ op.I64ShrU ∷
+    op.I64Rotl ∷ op.I64Rotr ∷ op.F32Abs ∷ op.F32Neg ∷ op.F32Ceil ∷ op.F32Floor ∷ op.F32Trunc ∷ op.F32Nearest ∷
+    op.F32Sqrt ∷ op.F32Add ∷ op.F32Sub ∷ op.F32Mul ∷ op.F32Div ∷ op.F32Min ∷ op.F32Max ∷ op.F32Copysign ∷
+    op.F64Abs ∷ op.F64Neg ∷ op.F64Ceil ∷ op.F64Floor ∷ op.F64Trunc ∷ op.F64Nearest ∷ op.F64Sqrt ∷ op.F64Add ∷
+    op.F64Sub ∷ op.F64Mul ∷ op.F64Div ∷ op.F64Min ∷ op.F64Max ∷ op.F64Copysign ∷ op.I32WrapI64 ∷
+    op.I32TruncF32S ∷ op.I32TruncF32U ∷ op.I32TruncF64S ∷ op.I32TruncF64U ∷ op.I64ExtendI32S ∷ op.I64ExtendI32U ∷
+    op.I64TruncF32S ∷ op.I64TruncF32U ∷ op.I64TruncF64S ∷ op.I64TruncF64U ∷ op.F32ConvertI32S ∷
+    op.F32ConvertI32U ∷ op.F32ConvertI64S ∷ op.F32ConvertI64U ∷ op.F32DemoteF64 ∷ op.F64ConvertI32S ∷
+    op.F64ConvertI32U ∷ op.F64ConvertI64S ∷ op.F64ConvertI64U ∷ op.F64PromoteF32 ∷ op.I32ReinterpretF32 ∷
+    op.I64ReinterpretF64 ∷ op.F32ReinterpretI32 ∷ op.F64ReinterpretI64 ∷ op.I32Extend8S ∷ op.I32Extend16S ∷
+    op.I64Extend8S ∷ op.I64Extend16S ∷ op.I64Extend32S ∷ op.I32TruncSatF32S ∷ op.I32TruncSatF32U ∷
+    op.I32TruncSatF64S ∷ op.I32TruncSatF64U ∷ op.I64TruncSatF32S ∷ op.I64TruncSatF32U ∷ op.I64TruncSatF64S ∷
+    op.I64TruncSatF64U ∷ []
+
+abbrev pub is_number : Option ℕ → Option ℕ → Bool
+is_number None None = true
+is_number None (Some b) = false
+is_number (Some a) None = false
+is_number (Some a) (Some b) = a == b
+
+abbrev pub has_opcode : ℕ → Option ℕ → NumOp → Bool
+has_opcode byte number op = ((row_of op).opcode.0 == byte) && is_number (row_of op).opcode.1 number
+
+-- the operation of the row that has this opcode, with this number behind it
+unfoldable pub op_at : ℕ → Option ℕ → Option NumOp
+op_at byte number = find (λ op. has_opcode byte number op) operations
+
+-- the table read backwards is the table
+abbrev pub NamesOperation : Type 0
+NamesOperation = (byte : ℕ) (number : Option ℕ) (op : NumOp) → op_at byte number ≡ Some op → opcode_of op ≡ (byte, number)
+
+abbrev pub OperationNamed : Type 0
+OperationNamed = (op : NumOp) → op_at (opcode_of op).0 (opcode_of op).1 ≡ Some op

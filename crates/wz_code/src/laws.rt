@@ -1,6 +1,8 @@
 //! Laws of trees, of bodies that are being built and of the tables, for the proofs of other crates.
 //! A law is the contract of a function that does nothing.
 
+ghost use Rattle.wz_code.specs.Accesses.{NamesAccess, AccessNamed};
+ghost use Rattle.wz_code.specs.Numeric.{NamesOperation, OperationNamed};
 ghost use Rattle.wz_code.specs.Laws.{TreeOfBlock, CodeAtStart, CodeAtInstr, CodeAtEnd, StartsBuilding, HeldIsThere, TakingInstr, TakingBlock, TakingLabel, TakingType, TakingLocals, CountsInstr, CountsBlock, CountsLabel, CountsType, CountsLocals, ShortByCount};
 
 /// A block's tree is its instructions in order, each with the trees of the blocks that it names.
@@ -43,4 +45,13 @@ pub fn items_are_counted()
     ensures type_ { CountsType }
     ensures locals { CountsLocals }
     ensures short { ShortByCount }
+{}
+
+/// What the tables read backwards name is what has the opcode.
+#[tactic(auto, using(crate::proofs::NumericLemmas::names_operation, crate::proofs::NumericLemmas::operation_named, crate::proofs::AccessLemmas::names_access, crate::proofs::AccessLemmas::access_named))]
+pub fn opcodes_name_rows()
+    ensures names { NamesOperation }
+    ensures named { OperationNamed }
+    ensures names_access { NamesAccess }
+    ensures access_named { AccessNamed }
 {}

@@ -2,7 +2,7 @@
 
 ghost use Rattle.std.specs.Prelude.{◌≡◌, ◌≢◌, IfSome, IsNone};
 ghost use Rattle.wz_code.specs.declared.numeric.NumOp.{NumOp};
-ghost use Rattle.wz_code.specs.Numeric.{opcode_of, types_of};
+ghost use Rattle.wz_code.specs.Numeric.{opcode_of, types_of, op_at};
 
 use wz_types::ValType;
 
@@ -362,10 +362,19 @@ pub fn opcode(op: NumOp) -> (u8, Option<u32>)
     numeric!(opcode_rows(op))
 }
 
-/// The operation that has this opcode, with this number behind it.
-pub fn from_opcode(byte: u8, second: Option<u32>) -> Option<NumOp>
+/// The row of the table that has this opcode.
+fn find_row(byte: u8, second: Option<u32>) -> Option<NumOp>
     ensures found { IfSome result (λ op. opcode_of op ≡ (byte, second)) }
     ensures none { IsNone result → (op : NumOp) → opcode_of op ≢ (byte, second) }
 {
     numeric!(operation_rows((byte, second)))
+}
+
+/// The operation that has this opcode, with this number behind it.
+pub fn from_opcode(byte: u8, second: Option<u32>) -> Option<NumOp>
+    ensures found { IfSome result (λ op. opcode_of op ≡ (byte, second)) }
+    ensures none { IsNone result → (op : NumOp) → opcode_of op ≢ (byte, second) }
+    ensures value { result ≡ op_at byte second }
+{
+    find_row(byte, second)
 }
