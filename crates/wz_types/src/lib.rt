@@ -18,3 +18,6 @@ pub use trap::TrapKind;
 pub use types::{GlobalType, Limits, MemType, RefKind, TableType, ValType};
 pub use value::{Reference, Sort, Value};
 pub use values::Values;
+
+#[cfg(test)]
+mod tests;
