@@ -1,8 +1,23 @@
 //! The types and values of WebAssembly that every other crate speaks of, and names as texts.
 //!
-//! A `Text` is seen by contracts as the list of its bytes.
+//! Contracts see a `Text` as the list of its bytes, a `FuncType` as its two lists and a `Values` as
+//! the list of its items; all else is plain data. When a value may stand where a type is asked for
+//! is said once, by `Fits`, and `Value::fits` decides it.
 #![tactic(auto)]
 
+mod function_type;
 mod text;
+mod trap;
+mod types;
+mod value;
+mod values;
 
+pub use function_type::FuncType;
 pub use text::Text;
+pub use trap::TrapKind;
+pub use types::{GlobalType, Limits, MemType, RefKind, TableType, ValType};
+pub use value::{Reference, Sort, Value};
+pub use values::Values;
+
+#[cfg(test)]
+mod tests;

@@ -1,0 +1,2 @@
+pub mod FunctionType
+pub mod Fits
