@@ -125,6 +125,7 @@ fn bodies_are_built_and_walked(rt: HostRuntime) -> Result<(), Fail> {
     assert!(rt; body.labels() == [3].as_slice());
     assert!(rt; body.types() == [ValType::F32].as_slice());
     assert_eq!(rt; body.block_count(), 2);
+    assert_eq!(rt; size_of::<Instr>(), 24);
     assert!(rt; matches!(body.block(1), Some([Instr::Br(0)])));
     assert!(rt; body.block(2).is_none());
     let mut all = Counter { seen: 0, limit: 9 };
