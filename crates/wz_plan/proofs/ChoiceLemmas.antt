@@ -1,24 +1,20 @@
 -- The order of the gaps, and how many of them go before one.
-use Rattle.std.proofs.Common.{ℕ, zero, suc, ◌+◌, ◌-◌, ◌<◌, ◌≤◌, ◌≡◌, ◌⊎◌, Bool, true, false, not, ◌&&◌, List, [], ◌∷◌, ◌++◌, length, take, drop, get_or, refl, sym, ◌∙◌, ap, subst, inl, inr, ⊎_elim, cond, arith, rules}
+use Rattle.std.proofs.Common.{ℕ, zero, suc, ◌+◌, ◌-◌, ◌<◌, ◌≤◌, ◌≡◌, Bool, true, false, not, ◌&&◌, List, [], ◌∷◌, ◌++◌, length, take, drop, get_or, refl, sym, ◌∙◌, ap, subst, cond, arith}
 use Rattle.std.specs.Bool.{nat_lt}
-use Rattle.std.specs.List.{count_by, All}
+use Rattle.std.specs.List.{count_by}
 use Rattle.std.specs.List.Sorted.{IsSortedBy, IsPermutation}
 use Rattle.std.specs.Cmp.{IsStrictWeakOrder}
 use Rattle.std.specs.Ordering.{is_lt, ordering_then, nat_cmp}
-use Rattle.std.proofs.lemmas.Bool.{false≢true, cases_lt}
+use Rattle.std.proofs.lemmas.Bool.{false≢true}
 use Rattle.std.proofs.lemmas.Bool.Decides.{nat_tests}
-use Rattle.std.proofs.lemmas.List.{take_all, drop_more, take_more, length-drop, length-take-le, take-append-drop}
+use Rattle.std.proofs.lemmas.List.{take_all, drop_more, length-take-le, take-append-drop}
 use Rattle.std.proofs.lemmas.List.Sums.{count_by_more_yes, count_by_more_no, count_by-le-length, sum_by-append}
 use Rattle.std.proofs.lemmas.List.Elements.{All-cons}
 use Rattle.std.proofs.lemmas.List.Sorted.{sorted_far, sum_by-IsPermutation}
 use Rattle.wz_plan.specs.declared.runs.Run.{Run}
-use Rattle.wz_plan.specs.declared.choice.Cuts.{Cuts}
-use Rattle.wz_plan.specs.declared.choice.Cuts.TheVariants.{Every, NoGap, UpTo}
-use Rattle.wz_plan.specs.Choice.{cuts_gap}
 use Rattle.wz_plan.specs.Ranges.{end_of, gap_between, RisesFrom, EndsBy, gaps, with_first, joined}
 use Rattle.wz_plan.specs.Plan.{goes_before, rank, is_cut, chosen}
 use Rattle.wz_plan.proofs.JoinLemmas.{rises-joined, rises-joined_alone}
-use Rattle.wz_plan.proofs.PlaceLemmas.{rises_lower}
 
 -- the order is one: what isn't before a third by way of a second isn't before it
 pub order_is_weak : IsStrictWeakOrder goes_before

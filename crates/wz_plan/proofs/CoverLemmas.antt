@@ -1,13 +1,12 @@
 -- What merged ranges hold, and where they begin and end.
-use Rattle.std.proofs.Common.{ℕ, zero, suc, ◌+◌, ◌-◌, ◌<◌, ◌≤◌, ◌≡◌, ◌⊎◌, Bool, true, false, List, [], ◌∷◌, ◌++◌, length, get_or, if◌then◌else◌, refl, sym, ◌∙◌, ap, subst, inl, inr, ⊎_elim, append_assoc, zero-add, arith, rules}
+use Rattle.std.proofs.Common.{ℕ, zero, suc, ◌+◌, ◌-◌, ◌≤◌, ◌≡◌, Bool, true, false, List, [], ◌∷◌, ◌++◌, length, get_or, if◌then◌else◌, refl, sym, ◌∙◌, ap, subst, inl, inr, ⊎_elim, append_assoc, zero-add, arith}
 use Rattle.std.specs.Bool.{nat_lt}
 use Rattle.std.specs.List.{All}
-use Rattle.std.proofs.lemmas.Bool.Decides.{nat_tests}
 use Rattle.std.proofs.lemmas.List.{get_or_at, length_push}
 use Rattle.std.proofs.lemmas.List.Elements.{All-nil, All-cons, All-head, All-tail}
 use Rattle.wz_plan.specs.declared.runs.Run.{Run}
 use Rattle.wz_plan.specs.Ranges.{end_of, gap_between, hull, RisesFrom, EndsBy, gaps, with_first, joined}
-use Rattle.wz_plan.specs.Plan.{nonzero_places, runs_at, runs, is_cut, chosen, plan, Holds, IsHeld}
+use Rattle.wz_plan.specs.Plan.{nonzero_places, runs_at, runs, is_cut, chosen, plan, IsHeld}
 use Rattle.wz_plan.specs.Laws.{IsTight, PlanCovers, PlanRises, PlanIsWithin, PlanIsTight, RunsCover}
 use Rattle.wz_plan.proofs.JoinLemmas.{end-hull, rises-joined_alone, joined-joined_alone}
 use Rattle.wz_plan.proofs.GapLemmas.{is_cut_long}

@@ -1,16 +1,15 @@
 -- Gaps after a merge, and which of them are cut.
-use Rattle.std.proofs.Common.{ℕ, zero, suc, ◌+◌, ◌-◌, ◌<◌, ◌≤◌, ◌≡◌, ◌⊎◌, Bool, true, false, cond, if◌then◌else◌, ◌&&◌, ◌||◌, ltb, eqb, List, [], ◌∷◌, ◌++◌, length, zero-add, refl, sym, ◌∙◌, ap, subst, inl, inr, ⊎_elim, arith, rules}
+use Rattle.std.proofs.Common.{ℕ, ◌+◌, ◌-◌, ◌≤◌, ◌≡◌, Bool, true, false, cond, ◌&&◌, List, [], ◌∷◌, zero-add, refl, sym, ◌∙◌, ap, arith}
 use Rattle.std.specs.List.{filter, count_by}
 use Rattle.std.specs.Bool.{nat_lt}
 use Rattle.std.proofs.lemmas.Bool.{false≢true}
 use Rattle.std.proofs.lemmas.List.Sums.{sum_by-cons}
 use Rattle.std.proofs.lemmas.Bool.Decides.{nat_tests}
-use Rattle.std.proofs.lemmas.Grind.{common_steps}
 use Rattle.wz_plan.specs.declared.runs.Run.{Run}
 use Rattle.wz_plan.specs.Ranges.{end_of, gap_between, hull, RisesFrom, gaps, with_first, joined}
-use Rattle.wz_plan.specs.Plan.{goes_before, rank, is_cut, chosen}
+use Rattle.wz_plan.specs.Plan.{goes_before, is_cut, chosen}
 use Rattle.wz_plan.specs.Scanned.{merged}
-use Rattle.wz_plan.proofs.JoinLemmas.{gap-hull, end-hull, rises-joined_alone, joined-joined_alone}
+use Rattle.wz_plan.proofs.JoinLemmas.{gap-hull, rises-joined_alone, joined-joined_alone}
 
 -- a hull has the gaps behind its higher part
 gaps-hull : (x y : Run) (ys : List Run) → x.at ≤ end_of y → gaps (hull x y ∷ ys) ≡ gaps (y ∷ ys)

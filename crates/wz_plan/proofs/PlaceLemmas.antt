@@ -1,7 +1,7 @@
 -- The non-zero places of bytes that stand one behind the other.
-use Rattle.std.proofs.Common.{ℕ, zero, suc, ◌+◌, ◌-◌, ◌<◌, ◌≤◌, ◌≡◌, List, [], ◌∷◌, ◌++◌, length, replicate, refl, sym, ◌∙◌, ap, subst, arith, rules, append_assoc}
+use Rattle.std.proofs.Common.{ℕ, zero, suc, ◌+◌, ◌≤◌, ◌≡◌, List, [], ◌∷◌, ◌++◌, length, replicate, refl, ap, arith}
 use Rattle.wz_plan.specs.declared.runs.Run.{Run}
-use Rattle.wz_plan.specs.Ranges.{end_of, RisesFrom}
+use Rattle.wz_plan.specs.Ranges.{RisesFrom}
 use Rattle.wz_plan.specs.Plan.{nonzero_places}
 
 pub rises_lower : (apart low lower : ℕ) (xs : List Run) → lower ≤ low → RisesFrom apart low xs → RisesFrom apart lower xs

@@ -1,12 +1,12 @@
 -- Scans in pieces, and the choice among what they find.
-use Rattle.std.proofs.Common.{ℕ, zero, suc, ◌+◌, ◌-◌, ◌<◌, ◌≤◌, ◌≡◌, Bool, true, false, List, [], ◌∷◌, ◌++◌, length, replicate, refl, sym, ◌∙◌, ap, subst, arith, rules, append_assoc, append-nil}
+use Rattle.std.proofs.Common.{ℕ, ◌+◌, ◌-◌, ◌≤◌, ◌≡◌, true, List, ◌++◌, length, replicate, sym, ◌∙◌, ap, subst, arith, append-nil}
 use Rattle.std.specs.Bool.{nat_lt}
 use Rattle.std.proofs.lemmas.Bool.Decides.{nat_tests}
 use Rattle.std.proofs.lemmas.List.{length-append, length-replicate}
 use Rattle.wz_plan.specs.declared.runs.Run.{Run}
-use Rattle.wz_plan.specs.Ranges.{RisesFrom, joined}
+use Rattle.wz_plan.specs.Ranges.{RisesFrom}
 use Rattle.wz_plan.specs.Plan.{nonzero_places, runs_at, runs, plan}
-use Rattle.wz_plan.specs.Scanned.{Found, merged, found_in, found_after, followed_at}
+use Rattle.wz_plan.specs.Scanned.{merged, found_in, found_after, followed_at}
 use Rattle.wz_plan.specs.Laws.{FindsMore, ChoiceIsPlan}
 use Rattle.wz_plan.proofs.JoinLemmas.{joined-joined, joined-joined_alone, joined-append_joined, rises-joined_alone}
 use Rattle.wz_plan.proofs.GapLemmas.{chosen-merged}

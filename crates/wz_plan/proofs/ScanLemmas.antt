@@ -1,5 +1,5 @@
 -- One run more of the bytes that are scanned.
-use Rattle.std.proofs.Common.{ℕ, zero, suc, ◌+◌, ◌-◌, ◌<◌, ◌≤◌, ◌≡◌, ◌⊎◌, Bool, true, false, Option, Some, None, Result, Ok, Err, set, inl, inr, List, [], ◌∷◌, ◌++◌, length, take, drop, get_or, refl, sym, ◌∙◌, ap, subst, arith, rules, append_assoc, append-nil}
+use Rattle.std.proofs.Common.{ℕ, zero, suc, ◌+◌, ◌-◌, ◌<◌, ◌≤◌, ◌≡◌, ◌⊎◌, Bool, true, false, Option, Some, None, Result, Ok, Err, set, inl, inr, List, [], ◌∷◌, ◌++◌, length, take, drop, get_or, refl, sym, ◌∙◌, ap, subst, arith, append_assoc, append-nil}
 use Rattle.std.specs.Bool.{nat_lt}
 use Rattle.std.specs.List.{All}
 use Rattle.std.proofs.lemmas.Bool.Decides.{nat_tests}
@@ -7,9 +7,9 @@ use Rattle.std.specs.Option.{IfSome}
 use Rattle.std.specs.Result.{OnErr}
 use Rattle.std.proofs.lemmas.Bool.{cases_eq}
 use Rattle.std.proofs.lemmas.List.{same_lists, length-set, get_or-set_same, get_or-set_other, get_or-take, get_or_default, take_more, take_all, length-take-le, get_or-drop, length-drop}
-use Rattle.std.proofs.lemmas.List.Elements.{All-nil, All-cons, All-append, All-weaker}
+use Rattle.std.proofs.lemmas.List.Elements.{All-nil, All-cons, All-append}
 use Rattle.wz_plan.specs.declared.runs.Run.{Run}
-use Rattle.wz_plan.specs.Ranges.{end_of, gap_between, hull, RisesFrom, EndsBy, with_first, joined, added, last_gap, KeepsFront}
+use Rattle.wz_plan.specs.Ranges.{end_of, gap_between, RisesFrom, EndsBy, with_first, joined, added, last_gap, KeepsFront}
 use Rattle.wz_plan.specs.Plan.{nonzero_places, runs_at}
 use Rattle.wz_plan.specs.Scanned.{IsFirstRun, merged}
 use Rattle.wz_plan.proofs.JoinLemmas.{end-hull, joined-push, joined-append_joined}

@@ -1,7 +1,7 @@
 -- The plan of data segments: which ranges of a memory are written, by the bytes alone.
 -- A data segment is one entry of section 5.5.14 of the WebAssembly Core Specification 2.0; how the entries are chosen is
 -- this tool's own rule.
-use Rattle.std.specs.Prelude.{ℕ, zero, suc, ◌+◌, ◌-◌, ◌<◌, ◌≤◌, ◌≡◌, ◌≢◌, ◌⊎◌, Bool, ◌&&◌, ◌||◌, ◌==◌, nat_lt, List, [], ◌∷◌, length, slice_index}
+use Rattle.std.specs.Prelude.{ℕ, zero, suc, ◌+◌, ◌-◌, ◌<◌, ◌≤◌, ◌≢◌, ◌⊎◌, Bool, ◌&&◌, ◌||◌, ◌==◌, nat_lt, List, [], ◌∷◌, length, slice_index}
 use Rattle.std.specs.List.{count_by, sum_by}
 use Rattle.wz_plan.specs.declared.runs.Run.{Run}
 use Rattle.wz_plan.specs.Ranges.{end_of, gaps, joined}

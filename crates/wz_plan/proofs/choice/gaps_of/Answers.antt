@@ -1,7 +1,7 @@
 use Rattle.std.proofs.Common.{◌≡◌, ◌≤◌, ◌+◌, ◌-◌, ◌++◌, drop, get_or, arith, ap, subst, sym, ◌∙◌, append-nil}
 use Rattle.std.proofs.lemmas.List.{length-drop}
 use Rattle.wz_plan.specs.declared.runs.Run.{Run}
-use Rattle.wz_plan.specs.Ranges.{end_of, gaps}
+use Rattle.wz_plan.specs.Ranges.{end_of}
 use Rattle.wz_plan.proofs.ChoiceLemmas.{gaps_none, rises_at}
 use Rattle.wz_plan.proofs.choice.gaps_of.Goals as goal
 

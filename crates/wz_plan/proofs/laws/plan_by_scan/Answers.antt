@@ -1,5 +1,4 @@
 use Rattle.wz_plan.proofs.PlanLemmas.{finds_more, choice_is_plan}
-use Rattle.wz_plan.proofs.ScanLemmas.{merged-none}
 use Rattle.wz_plan.proofs.laws.plan_by_scan.Goals as goal
 
 pub returns-clause-more : goal.returns-clause-more

@@ -1,5 +1,4 @@
-use Rattle.std.proofs.Common.{◌≡◌, ◌+◌, length, set, true, false, arith, sym, ap, ◌∙◌}
-use Rattle.std.proofs.lemmas.Grind.{common_steps}
+use Rattle.std.proofs.Common.{◌≡◌, ◌+◌, length, set, arith, sym, ap, ◌∙◌}
 use Rattle.wz_plan.specs.Ranges.{hull, added}
 use Rattle.wz_plan.proofs.AddLemmas.{added-merged, added-cut, added-empty}
 use Rattle.wz_plan.proofs.ranges.add.Goals as goal

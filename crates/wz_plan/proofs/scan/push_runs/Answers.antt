@@ -1,7 +1,6 @@
-use Rattle.std.proofs.Common.{◌-◌, ◌<◌, ◌≡◌, Option, Some, set, take, get_or, length, arith, ap, sym, ◌∙◌, refl}
+use Rattle.std.proofs.Common.{◌-◌, ◌≡◌, set, length, arith, ap, ◌∙◌}
 use Rattle.std.specs.List.{slice_get}
 use Rattle.std.proofs.lemmas.Grind.{common_steps}
-use Rattle.wz_plan.specs.declared.runs.Run.{Run}
 use Rattle.wz_plan.proofs.AddLemmas.{read_by_get}
 use Rattle.wz_plan.proofs.ScanLemmas.{restored, on_err}
 use Rattle.wz_plan.proofs.scan.push_runs.Goals as goal
