@@ -21,10 +21,23 @@ pub record IsTight (bytes : List ℕ) (range : Run) : Type 0 where
   pub first : slice_index bytes range.at ≢ 0
   pub last : slice_index bytes (end_of range - 1) ≢ 0
 
--- the runs and the plan cover the memory: each non-zero byte lies in one of their ranges
+-- a range consists of non-zero bytes
+pub record IsNonzero (bytes : List ℕ) (range : Run) : Type 0 where
+  pub not_empty : 0 < range.len
+  pub each : (place : ℕ) → range.at ≤ place → place < end_of range → slice_index bytes place ≢ 0
+
+-- the runs are the maximal ranges of non-zero bytes: they consist of such bytes, zeros lie between them, and each
+-- non-zero byte lies in one
+abbrev pub RunsAreNonzero : Type 0
+RunsAreNonzero = (bytes : List ℕ) → All (IsNonzero bytes) (runs bytes)
+
+abbrev pub RunsRise : Type 0
+RunsRise = (bytes : List ℕ) → RisesFrom 1 0 (runs bytes)
+
 abbrev pub RunsCover : Type 0
 RunsCover = (bytes : List ℕ) → Covers bytes (runs bytes)
 
+-- each non-zero byte lies in a range of the plan
 abbrev pub PlanCovers : Type 0
 PlanCovers = (bytes : List ℕ) (limit : ℕ) → Covers bytes (plan bytes limit)
 
@@ -37,3 +50,7 @@ PlanIsWithin = (bytes : List ℕ) (limit : ℕ) → EndsBy (length bytes) (plan 
 
 abbrev pub PlanIsTight : Type 0
 PlanIsTight = (bytes : List ℕ) (limit : ℕ) → All (IsTight bytes) (plan bytes limit)
+
+-- it has at most as many ranges as the limit
+abbrev pub PlanIsFew : Type 0
+PlanIsFew = (bytes : List ℕ) (limit : ℕ) → 1 ≤ limit → length (plan bytes limit) ≤ limit
