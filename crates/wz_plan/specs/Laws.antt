@@ -1,5 +1,5 @@
 -- What holds of the runs and the plan of any bytes.
-use Rattle.std.specs.Prelude.{ℕ, ◌-◌, ◌<◌, ◌≤◌, ◌≡◌, ◌≢◌, List, length, slice_index}
+use Rattle.std.specs.Prelude.{ℕ, ◌-◌, ◌<◌, ◌≤◌, ◌≡◌, ◌≢◌, List, ◌++◌, length, replicate, slice_index}
 use Rattle.std.specs.List.{All}
 use Rattle.wz_plan.specs.declared.runs.Run.{Run}
 use Rattle.wz_plan.specs.Ranges.{end_of, RisesFrom, EndsBy}
@@ -10,6 +10,10 @@ use Rattle.wz_plan.specs.Scanned.{found_in, found_after, followed_at}
 abbrev pub FindsMore : Type 0
 FindsMore = (bytes : List ℕ) (at : ℕ) (more : List ℕ)
     → length bytes ≤ at → found_after (found_in bytes) at more ≡ found_in (followed_at bytes at more)
+
+-- zeros behind the bytes add no run
+abbrev pub ZerosAddNothing : Type 0
+ZerosAddNothing = (bytes : List ℕ) (count : ℕ) → (found_in (bytes ++ replicate count 0)).runs ≡ (found_in bytes).runs
 
 -- the choice among what was found is the plan
 abbrev pub ChoiceIsPlan : Type 0

@@ -2,13 +2,14 @@
 //!
 //! These functions do nothing: what they ensure speaks of lists of bytes alone.
 
-ghost use Rattle.wz_plan.specs.Laws.{FindsMore, ChoiceIsPlan};
+ghost use Rattle.wz_plan.specs.Laws.{FindsMore, ZerosAddNothing, ChoiceIsPlan};
 ghost use Rattle.wz_plan.specs.Laws.{RunsAreNonzero, RunsRise, RunsCover};
 ghost use Rattle.wz_plan.specs.Laws.{PlanCovers, PlanRises, PlanIsWithin, PlanIsTight, PlanIsFew};
 
 /// Scans of bytes in several pieces, and the choice among what a scan found.
 pub fn plan_by_scan()
     ensures more { FindsMore }
+    ensures zeros { ZerosAddNothing }
     ensures choice { ChoiceIsPlan }
 {}
 
