@@ -2,7 +2,8 @@
 use Rattle.std.proofs.Common.{ℕ, zero, suc, ◌+◌, ◌-◌, ◌<◌, ◌≡◌, Bool, true, false, List, [], ◌∷◌, ◌++◌, length, get_or, set, Some, None, refl, ◌∙◌, ap, arith}
 use Rattle.std.specs.List.{slice_get}
 use Rattle.wz_plan.specs.declared.runs.Run.{Run}
-use Rattle.wz_plan.specs.Ranges.{gap_between, hull, last_gap, added}
+use Rattle.wz_plan.specs.Ranges.{gap_between, hull}
+use Rattle.wz_plan.specs.Collected.{last_gap, added}
 
 pub last_gap-get : (xs : List Run) (range x : Run) → Some x ≡ slice_get xs (length xs - 1) → last_gap xs range ≡ Some (gap_between x range)
 last_gap-get [] range x e = cc

@@ -2,12 +2,14 @@
 use Rattle.std.proofs.Common.{ℕ, zero, suc, ◌+◌, ◌-◌, ◌≤◌, ◌≡◌, Bool, true, false, List, [], ◌∷◌, ◌++◌, length, get_or, if◌then◌else◌, refl, sym, ◌∙◌, ap, subst, inl, inr, ⊎_elim, append_assoc, zero-add, arith}
 use Rattle.std.specs.Bool.{nat_lt}
 use Rattle.std.specs.List.{All}
+use Rattle.std.proofs.lemmas.Bool.{cases_lt}
+use Rattle.std.proofs.lemmas.Bool.Decides.{nat_tests}
 use Rattle.std.proofs.lemmas.List.{get_or_at, length_push}
 use Rattle.std.proofs.lemmas.List.Elements.{All-nil, All-cons, All-head, All-tail}
 use Rattle.wz_plan.specs.declared.runs.Run.{Run}
 use Rattle.wz_plan.specs.Ranges.{end_of, gap_between, hull, RisesFrom, EndsBy, gaps, with_first, joined}
 use Rattle.wz_plan.specs.Plan.{nonzero_places, runs_at, runs, is_cut, chosen, plan, IsHeld}
-use Rattle.wz_plan.specs.Laws.{IsTight, PlanCovers, PlanRises, PlanIsWithin, PlanIsTight, RunsCover}
+use Rattle.wz_plan.specs.Laws.{IsTight, PlanCovers, PlanRises, PlanIsWithin, PlanIsTight, IsNonzero, RunsCover, RunsRise, RunsAreNonzero}
 use Rattle.wz_plan.proofs.JoinLemmas.{end-hull, rises-joined_alone, joined-joined_alone}
 use Rattle.wz_plan.proofs.GapLemmas.{is_cut_long}
 use Rattle.wz_plan.proofs.PlaceLemmas.{rises_places}
@@ -15,19 +17,20 @@ use Rattle.wz_plan.proofs.ScanLemmas.{ends_places, rises_cut, long_is_not_empty}
 
 -- a fact of each range stays where it passes from two neighbours to their hull
 all-with_first : (P : Run → Type 0) (cut : Run → Bool) (x : Run) (ys : List Run)
-    → ((lower upper : Run) → end_of lower ≤ upper.at → P lower → P upper → P (hull lower upper))
+    → ((lower upper : Run) → cut (gap_between lower upper) ≡ false → end_of lower ≤ upper.at → P lower → P upper → P (hull lower upper))
     → RisesFrom 0 (end_of x + 0) ys → All P (x ∷ ys) → All P (with_first cut x ys)
 all-with_first P cut x [] joins rises all = all
-all-with_first P cut x (y ∷ ys) joins rises all =
-    elim (cut (gap_between x y)) as (λ b. All P (if b then x ∷ y ∷ ys else hull x y ∷ ys)) [
-      | true ↦ all
-      | false ↦ All-cons P (hull x y) ys
-          (joins x y (omega arith) (All-head P x (y ∷ ys) all) (All-head P y ys (All-tail P x (y ∷ ys) all)))
-          (All-tail P y ys (All-tail P x (y ∷ ys) all))
-    ]
+all-with_first P cut x (y ∷ ys) joins rises all = by_gap (cut (gap_between x y)) refl
+  where
+    by_gap : (b : Bool) → cut (gap_between x y) ≡ b → All P (with_first cut x (y ∷ ys))
+    by_gap true e = rw e all
+    by_gap false e = rw e
+        (All-cons P (hull x y) ys
+        (joins x y e (omega arith) (All-head P x (y ∷ ys) all) (All-head P y ys (All-tail P x (y ∷ ys) all)))
+        (All-tail P y ys (All-tail P x (y ∷ ys) all)))
 
 pub all-joined : (P : Run → Type 0) (cut : Run → Bool) (low : ℕ) (xs : List Run)
-    → ((lower upper : Run) → end_of lower ≤ upper.at → P lower → P upper → P (hull lower upper))
+    → ((lower upper : Run) → cut (gap_between lower upper) ≡ false → end_of lower ≤ upper.at → P lower → P upper → P (hull lower upper))
     → RisesFrom 0 low xs → All P xs → All P (joined cut xs)
 all-joined P cut low [] joins rises all = all
 all-joined P cut low (x ∷ xs) joins rises all =
@@ -37,7 +40,7 @@ all-joined P cut low (x ∷ xs) joins rises all =
 pub ends-joined : (high : ℕ) (cut : Run → Bool) (low : ℕ) (xs : List Run) → RisesFrom 0 low xs → EndsBy high xs → EndsBy high (joined cut xs)
 ends-joined high cut low xs rises ends =
     all-joined (λ range. end_of range ≤ high) cut low xs
-    (λ lower upper above first second. let size = end-hull lower upper (omega arith) in omega arith) rises ends
+    (λ lower upper merge above first second. let size = end-hull lower upper (omega arith) in omega arith) rises ends
 
 -- a place that ranges hold is held by what they are merged to
 held-with_first : (high : ℕ) (cut : Run → Bool) (x : Run) (ys : List Run) (place : ℕ)
@@ -140,7 +143,7 @@ runs_cover bytes place nonzero =
 pub plan_rises : PlanRises
 plan_rises bytes limit =
     subst (RisesFrom 9 0) (sym (plan-places bytes limit))
-    (rises_cut (is_cut limit (gaps (runs bytes))) 0 (nonzero_places 0 bytes) (is_cut_long limit (gaps (runs bytes))) (rises_places 0 bytes))
+    (rises_cut 8 (is_cut limit (gaps (runs bytes))) 0 (nonzero_places 0 bytes) (is_cut_long limit (gaps (runs bytes))) (rises_places 0 bytes))
 
 pub plan_is_within : PlanIsWithin
 plan_is_within bytes limit =
@@ -150,5 +153,44 @@ plan_is_within bytes limit =
 pub plan_is_tight : PlanIsTight
 plan_is_tight bytes limit =
     subst (All (IsTight bytes)) (sym (plan-places bytes limit))
-    (all-joined (IsTight bytes) (is_cut limit (gaps (runs bytes))) 0 (nonzero_places 0 bytes) (tight-hull bytes) (rises_places 0 bytes)
+    (all-joined (IsTight bytes) (is_cut limit (gaps (runs bytes))) 0 (nonzero_places 0 bytes) (λ lower upper merge above one two. tight-hull bytes lower upper above one two) (rises_places 0 bytes)
     (tight_places [] bytes 0 refl))
+
+-- the runs consist of non-zero bytes alone, and zeros lie between them
+nonzero_place : (bytes : List ℕ) (range : Run) → range.len ≡ 1 → (get_or bytes range.at 0 ≡ 0 → ⊥) → IsNonzero bytes range
+nonzero_place bytes range one here = record {
+  not_empty = omega arith;
+  each = λ place low high none. let e : place ≡ range.at = omega arith in here (sym (ap (λ n. get_or bytes n 0) e) ∙ none);
+}
+
+nonzero_from_tight : (bytes : List ℕ) (at : ℕ) (xs : List Run) → All (λ range. range.len ≡ 1) xs → All (IsTight bytes) xs → All (IsNonzero bytes) xs
+nonzero_from_tight bytes at xs ones tight = λ k d h. nonzero_place bytes (get_or xs k d) (ones k d h) (tight k d h).first
+
+one_place : (at : ℕ) (bytes : List ℕ) → All (λ range. range.len ≡ 1) (nonzero_places at bytes)
+one_place at [] = All-nil (λ range. range.len ≡ 1)
+one_place at (zero ∷ bytes) = one_place (at + 1) bytes
+one_place at (suc byte ∷ bytes) = All-cons (λ range. range.len ≡ 1) record { at = at; len = 1 } (nonzero_places (at + 1) bytes) refl (one_place (at + 1) bytes)
+
+nonzero-hull : (bytes : List ℕ) (lower upper : Run) → nat_lt 0 (gap_between lower upper).len ≡ false
+    → end_of lower ≤ upper.at → IsNonzero bytes lower → IsNonzero bytes upper → IsNonzero bytes (hull lower upper)
+nonzero-hull bytes lower upper merge above one two =
+    let some = two.not_empty in
+    let size = end-hull lower upper (omega arith) in
+    let touch : upper.at ≤ end_of lower = grind (arith, nat_tests) in
+    record {
+      not_empty = omega arith;
+      each = λ place low high. ⊎_elim
+          (λ below. one.each place low below)
+          (λ over. two.each place (omega arith) (omega arith))
+          (cases_lt place (end_of lower));
+    }
+
+pub runs_are_nonzero : RunsAreNonzero
+unfolding runs runs_at
+runs_are_nonzero bytes =
+    all-joined (IsNonzero bytes) (λ gap. nat_lt 0 gap.len) 0 (nonzero_places 0 bytes) (nonzero-hull bytes) (rises_places 0 bytes)
+    (nonzero_from_tight bytes 0 (nonzero_places 0 bytes) (one_place 0 bytes) (tight_places [] bytes 0 refl))
+
+pub runs_rise : RunsRise
+unfolding runs runs_at
+runs_rise bytes = rises_cut 0 (λ gap. nat_lt 0 gap.len) 0 (nonzero_places 0 bytes) (λ gap long. long) (rises_places 0 bytes)

@@ -1,7 +1,8 @@
 -- Ranges that are merged: one after another, in two steps, and at the end of a list.
 use Rattle.std.proofs.Common.{ℕ, ◌+◌, ◌-◌, ◌≤◌, ◌≡◌, Bool, true, false, List, [], ◌∷◌, ◌++◌, if◌then◌else◌, append-nil, refl, sym, ◌∙◌, ap, subst, arith}
 use Rattle.wz_plan.specs.declared.runs.Run.{Run}
-use Rattle.wz_plan.specs.Ranges.{end_of, gap_between, hull, RisesFrom, with_first, joined, added}
+use Rattle.wz_plan.specs.Ranges.{end_of, gap_between, hull, RisesFrom, with_first, joined}
+use Rattle.wz_plan.specs.Collected.{added}
 
 -- the end of a hull is that of its higher part
 pub end-hull : (x y : Run) → x.at ≤ end_of y → end_of (hull x y) ≡ end_of y

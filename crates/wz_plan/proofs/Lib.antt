@@ -1,6 +1,7 @@
 pub mod AddLemmas
 pub mod ChoiceLemmas
 pub mod CoverLemmas
+pub mod FewLemmas
 pub mod FirstRunLemmas
 pub mod GapLemmas
 pub mod JoinLemmas

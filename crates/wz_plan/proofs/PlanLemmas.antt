@@ -7,7 +7,7 @@ use Rattle.wz_plan.specs.declared.runs.Run.{Run}
 use Rattle.wz_plan.specs.Ranges.{RisesFrom}
 use Rattle.wz_plan.specs.Plan.{nonzero_places, runs_at, runs, plan}
 use Rattle.wz_plan.specs.Scanned.{merged, found_in, found_after, followed_at}
-use Rattle.wz_plan.specs.Laws.{FindsMore, ChoiceIsPlan}
+use Rattle.wz_plan.specs.Laws.{FindsMore, ZerosAddNothing, ChoiceIsPlan}
 use Rattle.wz_plan.proofs.JoinLemmas.{joined-joined, joined-joined_alone, joined-append_joined, rises-joined_alone}
 use Rattle.wz_plan.proofs.GapLemmas.{chosen-merged}
 use Rattle.wz_plan.proofs.PlaceLemmas.{rises_places, places-append, places-zeros}
@@ -60,6 +60,16 @@ finds_more bytes at more h =
     let size : at + length more ≡ length (followed_at bytes at more) =
     omega (arith, length-append (bytes ++ zeros) more, length-append bytes zeros, length-replicate {A = ℕ}) in
     λ i. record { runs = same i; end = size i }
+
+pub zeros_add_nothing : ZerosAddNothing
+unfolding runs
+zeros_add_nothing bytes count =
+    merged-runs 0 (bytes ++ replicate count 0)
+    ∙ ap merged
+    (places-append 0 (length bytes) bytes (replicate count 0) (omega arith)
+    ∙ ap (λ l. nonzero_places 0 bytes ++ l) (places-zeros (length bytes) count)
+    ∙ append-nil (nonzero_places 0 bytes))
+    ∙ sym (merged-runs 0 bytes)
 
 pub choice_is_plan : ChoiceIsPlan
 unfolding found_in plan runs

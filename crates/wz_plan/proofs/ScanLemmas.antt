@@ -9,9 +9,10 @@ use Rattle.std.proofs.lemmas.Bool.{cases_eq}
 use Rattle.std.proofs.lemmas.List.{same_lists, length-set, get_or-set_same, get_or-set_other, get_or-take, get_or_default, take_more, take_all, length-take-le, get_or-drop, length-drop}
 use Rattle.std.proofs.lemmas.List.Elements.{All-nil, All-cons, All-append}
 use Rattle.wz_plan.specs.declared.runs.Run.{Run}
-use Rattle.wz_plan.specs.Ranges.{end_of, gap_between, RisesFrom, EndsBy, with_first, joined, added, last_gap, KeepsFront}
+use Rattle.wz_plan.specs.Ranges.{end_of, gap_between, RisesFrom, EndsBy, with_first, joined}
 use Rattle.wz_plan.specs.Plan.{nonzero_places, runs_at}
 use Rattle.wz_plan.specs.Scanned.{IsFirstRun, merged}
+use Rattle.wz_plan.specs.Collected.{added, last_gap, KeepsFront}
 use Rattle.wz_plan.proofs.JoinLemmas.{end-hull, joined-push, joined-append_joined}
 use Rattle.wz_plan.proofs.AddLemmas.{added-alone, added-by_gap}
 use Rattle.wz_plan.proofs.PlaceLemmas.{rises_lower, rises_places, places-append}
@@ -226,29 +227,29 @@ restored old new last keeps some read =
         ∙ get_or-take (length old) new k d h
         ∙ keeps.same k d (below_last k (length old) h apart)
 
--- ranges that are left where only long gaps are cut are apart
-in_front : (cut : Run → Bool) (low : ℕ) (x : Run) (ys : List Run) → ((gap : Run) → cut gap ≡ true → nat_lt 8 gap.len ≡ true)
-    → low ≤ x.at → RisesFrom 9 (end_of x) ys → RisesFrom 9 low (with_first cut x ys)
-in_front cut low x [] long h rest = (h, tt)
-in_front cut low x (y ∷ ys) long h rest = by_gap (cut (gap_between x y)) refl
+-- ranges that are left where only gaps above n are cut are so far apart
+in_front : (n : ℕ) (cut : Run → Bool) (low : ℕ) (x : Run) (ys : List Run) → ((gap : Run) → cut gap ≡ true → nat_lt n gap.len ≡ true)
+    → low ≤ x.at → RisesFrom (n + 1) (end_of x) ys → RisesFrom (n + 1) low (with_first cut x ys)
+in_front n cut low x [] long h rest = (h, tt)
+in_front n cut low x (y ∷ ys) long h rest = by_gap (cut (gap_between x y)) refl
   where
-    by_gap : (b : Bool) → cut (gap_between x y) ≡ b → RisesFrom 9 low (with_first cut x (y ∷ ys))
+    by_gap : (b : Bool) → cut (gap_between x y) ≡ b → RisesFrom (n + 1) low (with_first cut x (y ∷ ys))
     by_gap true e =
         let test = long (gap_between x y) e in
-        let apart : end_of x + 9 ≤ y.at = grind (arith, nat_tests) in
+        let apart : end_of x + (n + 1) ≤ y.at = grind (arith, nat_tests) in
         rw e (h, (apart, rest.1))
-    by_gap false e = rw e (h, subst (λ n. RisesFrom 9 (n + 9) ys) (sym (end-hull x y (omega arith))) rest.1)
+    by_gap false e = rw e (h, subst (λ m. RisesFrom (n + 1) (m + (n + 1)) ys) (sym (end-hull x y (omega arith))) rest.1)
 
-pub rises_cut : (cut : Run → Bool) (low : ℕ) (xs : List Run) → ((gap : Run) → cut gap ≡ true → nat_lt 8 gap.len ≡ true)
-    → RisesFrom 0 low xs → RisesFrom 9 low (joined cut xs)
-rises_cut cut low [] long h = tt
-rises_cut cut low (x ∷ xs) long h =
-    in_front cut low x (joined cut xs) long h.0
-    (rises_lower 9 (end_of x + 0) (end_of x) (joined cut xs) (omega arith) (rises_cut cut (end_of x + 0) xs long h.1))
+pub rises_cut : (n : ℕ) (cut : Run → Bool) (low : ℕ) (xs : List Run) → ((gap : Run) → cut gap ≡ true → nat_lt n gap.len ≡ true)
+    → RisesFrom 0 low xs → RisesFrom (n + 1) low (joined cut xs)
+rises_cut n cut low [] long h = tt
+rises_cut n cut low (x ∷ xs) long h =
+    in_front n cut low x (joined cut xs) long h.0
+    (rises_lower (n + 1) (end_of x + 0) (end_of x) (joined cut xs) (omega arith) (rises_cut n cut (end_of x + 0) xs long h.1))
 
 pub rises_merged : (low : ℕ) (xs : List Run) → RisesFrom 0 low xs → RisesFrom 9 low (merged xs)
 unfolding merged
-rises_merged low xs h = rises_cut (λ gap. nat_lt 8 gap.len) low xs (λ gap long. long) h
+rises_merged low xs h = rises_cut 8 (λ gap. nat_lt 8 gap.len) low xs (λ gap long. long) h
 
 pub scan_rises : (old : List Run) (at : ℕ) (bytes : List ℕ) → RisesFrom 9 0 old → EndsBy at old → RisesFrom 9 0 (merged (old ++ runs_at at bytes))
 scan_rises old at bytes rises ends =

@@ -1,4 +1,4 @@
-pub mod Choice
+pub mod Collected
 pub mod Laws
 pub mod Plan
 pub mod Ranges

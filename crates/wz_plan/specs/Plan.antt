@@ -12,10 +12,11 @@ nonzero_places at [] = []
 nonzero_places at (zero ∷ bytes) = nonzero_places (at + 1) bytes
 nonzero_places at (suc _ ∷ bytes) = record { at = at; len = 1 } ∷ nonzero_places (at + 1) bytes
 
--- the maximal ranges of non-zero bytes: those that are left where nothing but an empty gap is merged
+-- the maximal ranges of non-zero bytes, which are left where nothing but empty gaps is merged; the first byte stands at `at`
 unfoldable pub runs_at : ℕ → List ℕ → List Run
 runs_at at bytes = joined (λ gap. nat_lt 0 gap.len) (nonzero_places at bytes)
 
+-- the runs of a memory
 unfoldable pub runs : List ℕ → List Run
 runs bytes = runs_at 0 bytes
 

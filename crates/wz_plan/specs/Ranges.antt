@@ -1,5 +1,5 @@
 -- Ranges of places in rising order, the gaps between them, and the ranges that are left where gaps are merged.
-use Rattle.std.specs.Prelude.{ℕ, ◌+◌, ◌-◌, ◌<◌, ◌≤◌, ◌≡◌, Bool, if◌then◌else◌, List, [], ◌∷◌, length, slice_index_or, Option, Some, None}
+use Rattle.std.specs.Prelude.{ℕ, ◌+◌, ◌-◌, ◌≤◌, Bool, if◌then◌else◌, List, [], ◌∷◌}
 use Rattle.std.specs.List.{All}
 use Rattle.wz_plan.specs.declared.runs.Run.{Run}
 
@@ -40,20 +40,3 @@ with_first cut range (next ∷ ranges) =
 abbrev pub joined : (Run → Bool) → List Run → List Run
 joined cut [] = []
 joined cut (range ∷ ranges) = with_first cut range (joined cut ranges)
-
--- the gap between the last of the ranges and a higher one
-abbrev pub last_gap : List Run → Run → Option Run
-last_gap [] range = None
-last_gap (x ∷ []) range = Some (gap_between x range)
-last_gap (x ∷ y ∷ ys) range = last_gap (y ∷ ys) range
-
--- a range behind others; the last of these becomes one with it unless the gap between them is cut
-abbrev pub added : (Run → Bool) → List Run → Run → List Run
-added cut [] range = range ∷ []
-added cut (x ∷ []) range = with_first cut x (range ∷ [])
-added cut (x ∷ y ∷ ys) range = x ∷ added cut (y ∷ ys) range
-
--- all but the last of the old ranges are the first of the new ones
-pub record KeepsFront (old new : List Run) : Type 0 where
-  pub longer : length old ≤ length new
-  pub same : (k : ℕ) (d : Run) → k + 1 < length old → slice_index_or new k d ≡ slice_index_or old k d

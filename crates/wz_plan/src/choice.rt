@@ -1,11 +1,11 @@
 //! The choice of the gaps that are cut.
 
-ghost use Rattle.std.specs.Prelude.{◌≡◌, ℕ, ◌+◌, ◌-◌, ◌^◌, ◌≤◌, List, map, nat_lt, IfSome, IfOk};
+ghost use Rattle.std.specs.Prelude.{◌≡◌, ℕ, ◌+◌, ◌-◌, ◌^◌, ◌≤◌, List, length, nat_lt, IfSome, IfOk};
 ghost use Rattle.wz_plan.specs.declared.runs.Run.{Run as TheRun};
-ghost use Rattle.wz_plan.specs.Choice.{cuts_gap};
-ghost use Rattle.wz_plan.specs.Ranges.{RisesFrom, EndsBy, gaps, last_gap};
+ghost use Rattle.wz_plan.specs.Ranges.{RisesFrom, EndsBy, gaps};
 ghost use Rattle.wz_plan.specs.Plan.{goes_before, rank, chosen, plan};
 ghost use Rattle.wz_plan.specs.Scanned.{found_in};
+ghost use Rattle.wz_plan.specs.Collected.{cuts_gap, last_gap};
 
 use crate::Run;
 use crate::ranges::{add, gap_before};
@@ -27,6 +27,7 @@ pub fn choose(alloc: Global, runs: &[Run], limit: u32) -> Result<Vec<Run>, Alloc
     requires apart { RisesFrom 9 0 runs.now }
     requires ends { EndsBy (2 ^ 30) runs.now }
     ensures chosen { IfOk result (λ ranges. ranges.items ≡ chosen runs.now limit) }
+    ensures few { IfOk result (λ ranges. length ranges.items ≤ limit) }
     ensures plan { IfOk result (λ ranges. (bytes : List ℕ) → runs.now ≡ (found_in bytes).runs
         → ranges.items ≡ plan bytes limit) }
 {

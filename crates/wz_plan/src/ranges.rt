@@ -1,7 +1,8 @@
 //! Ranges in rising order that are merged while they are collected.
 
 ghost use Rattle.std.specs.Prelude.{◌≡◌, ◌+◌, ◌^◌, ◌<◌, ◌≤◌, OnOk, OnErr};
-ghost use Rattle.wz_plan.specs.Ranges.{end_of, EndsBy, last_gap, added, KeepsFront};
+ghost use Rattle.wz_plan.specs.Ranges.{end_of, EndsBy};
+ghost use Rattle.wz_plan.specs.Collected.{last_gap, added, KeepsFront};
 
 use crate::Run;
 use std::alloc::AllocError;

@@ -1,7 +1,8 @@
 //! A scan of a memory for its runs, in pieces.
 
 ghost use Rattle.std.specs.Prelude.{◌≡◌, ℕ, ◌+◌, ◌^◌, ◌<◌, ◌≤◌, ◌++◌, [], List, length, nat_lt, IfSome, OnOk, OnErr};
-ghost use Rattle.wz_plan.specs.Ranges.{RisesFrom, EndsBy, KeepsFront, last_gap};
+ghost use Rattle.wz_plan.specs.Ranges.{RisesFrom, EndsBy};
+ghost use Rattle.wz_plan.specs.Collected.{KeepsFront, last_gap};
 ghost use Rattle.wz_plan.specs.Plan.{runs_at};
 ghost use Rattle.wz_plan.specs.Scanned.{Found, found_in, found_after, followed_at, merged};
 

@@ -1,12 +1,13 @@
-use Rattle.std.proofs.Common.{◌+◌, ◌++◌, [], ◌∷◌, take, get_or, arith, ap, subst, sym, ◌∙◌}
+use Rattle.std.proofs.Common.{length, ◌+◌, ◌++◌, [], ◌∷◌, take, get_or, arith, ap, subst, sym, ◌∙◌}
 use Rattle.std.proofs.lemmas.List.{take_more, take_all}
 use Rattle.wz_plan.specs.declared.runs.Run.{Run}
-use Rattle.wz_plan.specs.Choice.{cuts_gap}
-use Rattle.wz_plan.specs.Ranges.{RisesFrom, EndsBy, joined, added}
+use Rattle.wz_plan.specs.Ranges.{RisesFrom, EndsBy, joined}
 use Rattle.wz_plan.specs.Plan.{chosen}
+use Rattle.wz_plan.specs.Collected.{cuts_gap, added}
 use Rattle.wz_plan.proofs.JoinLemmas.{joined-push}
 use Rattle.wz_plan.proofs.PlanLemmas.{choice_is_plan}
 use Rattle.wz_plan.proofs.ScanLemmas.{rises_weaker, added-if_read}
+use Rattle.wz_plan.proofs.FewLemmas.{chosen_is_few}
 use Rattle.wz_plan.proofs.ChoiceLemmas.{joined_ends, rises_take, chosen_is}
 use Rattle.wz_plan.proofs.choice.choose.Goals as goal
 
@@ -43,6 +44,17 @@ returns-clause-chosen c =
     c.loop-run.invariant
     ∙ ap (joined (cuts_gap c.in_ok-cuts.cuts)) (take_all c.loop-run.run-index c.args.runs.now (omega arith))
     ∙ chosen_is (cuts_gap c.in_ok-cuts.cuts) c.args.runs.now c.args.limit c.requires.apart c.in_ok-cuts.ensures
+
+pub returns-clause-few : goal.returns-clause-few
+returns-clause-few c =
+    let is = c.loop-run.invariant
+    ∙ ap (joined (cuts_gap c.in_ok-cuts.cuts)) (take_all c.loop-run.run-index c.args.runs.now (omega arith))
+    ∙ chosen_is (cuts_gap c.in_ok-cuts.cuts) c.args.runs.now c.args.limit c.requires.apart c.in_ok-cuts.ensures in
+    omega (
+      arith,
+      ap length is,
+      chosen_is_few c.args.runs.now c.args.limit c.requires.some (rises_weaker 9 1 0 c.args.runs.now (omega arith) c.requires.apart),
+    )
 
 pub returns-clause-plan : goal.returns-clause-plan
 returns-clause-plan c = λ bytes is.

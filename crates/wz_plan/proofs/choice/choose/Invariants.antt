@@ -1,6 +1,6 @@
 use Rattle.std.proofs.Common.{◌≡◌, take}
-use Rattle.wz_plan.specs.Choice.{cuts_gap}
 use Rattle.wz_plan.specs.Ranges.{joined}
+use Rattle.wz_plan.specs.Collected.{cuts_gap}
 use Rattle.wz_plan.proofs.choice.choose.Given as goal
 
 abbrev pub invariant-loop-run : goal.invariant-loop-run

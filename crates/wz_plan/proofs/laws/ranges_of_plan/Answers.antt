@@ -1,8 +1,6 @@
-use Rattle.wz_plan.proofs.CoverLemmas.{runs_cover, plan_covers, plan_rises, plan_is_within, plan_is_tight}
+use Rattle.wz_plan.proofs.CoverLemmas.{plan_covers, plan_rises, plan_is_within, plan_is_tight}
+use Rattle.wz_plan.proofs.FewLemmas.{plan_is_few}
 use Rattle.wz_plan.proofs.laws.ranges_of_plan.Goals as goal
-
-pub returns-clause-runs_cover : goal.returns-clause-runs_cover
-returns-clause-runs_cover c = runs_cover
 
 pub returns-clause-covers : goal.returns-clause-covers
 returns-clause-covers c = plan_covers
@@ -15,3 +13,6 @@ returns-clause-within c = plan_is_within
 
 pub returns-clause-tight : goal.returns-clause-tight
 returns-clause-tight c = plan_is_tight
+
+pub returns-clause-few : goal.returns-clause-few
+returns-clause-few c = plan_is_few

@@ -1,5 +1,6 @@
 use Rattle.std.proofs.Common.{◌≡◌, ◌+◌, length, set, arith, sym, ap, ◌∙◌}
-use Rattle.wz_plan.specs.Ranges.{hull, added}
+use Rattle.wz_plan.specs.Ranges.{hull}
+use Rattle.wz_plan.specs.Collected.{added}
 use Rattle.wz_plan.proofs.AddLemmas.{added-merged, added-cut, added-empty}
 use Rattle.wz_plan.proofs.ranges.add.Goals as goal
 use Rattle.wz_plan.proofs.ranges.add.Goals.{in_default-via-in-Some+else-not-cut, in_default-via-in_default}

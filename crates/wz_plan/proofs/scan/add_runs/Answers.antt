@@ -1,9 +1,9 @@
 use Rattle.std.proofs.Common.{◌++◌, ◌+◌, take, arith, ap, sym, ◌∙◌, refl}
 use Rattle.std.specs.Bool.{nat_lt}
 use Rattle.wz_plan.specs.declared.runs.Run.{Run}
-use Rattle.wz_plan.specs.Ranges.{added}
 use Rattle.wz_plan.specs.Plan.{nonzero_places}
 use Rattle.wz_plan.specs.Scanned.{merged}
+use Rattle.wz_plan.specs.Collected.{added}
 use Rattle.wz_plan.proofs.ScanLemmas.{merged-none, merged-next_run, merged-no_run, added-if_read, ends_higher, keeps_on, keeps_same}
 use Rattle.wz_plan.proofs.scan.add_runs.Goals as goal
 

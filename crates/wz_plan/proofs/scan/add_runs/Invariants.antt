@@ -1,7 +1,8 @@
 use Rattle.std.proofs.Common.{◌≡◌, ◌+◌, ◌-◌, ◌≤◌, ◌++◌, length, take}
-use Rattle.wz_plan.specs.Ranges.{EndsBy, KeepsFront}
+use Rattle.wz_plan.specs.Ranges.{EndsBy}
 use Rattle.wz_plan.specs.Plan.{nonzero_places}
 use Rattle.wz_plan.specs.Scanned.{merged}
+use Rattle.wz_plan.specs.Collected.{KeepsFront}
 use Rattle.wz_plan.proofs.scan.add_runs.Given as goal
 
 abbrev pub invariant-loop-found : goal.invariant-loop-found
