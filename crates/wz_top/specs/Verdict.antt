@@ -44,3 +44,7 @@ abbrev pub IsNoInit : Outcome → Type 0
 IsNoInit NoMemory = ⊤
 IsNoInit (Exports (NoInit name)) = name ≡ initialize
 IsNoInit outcome = ⊥
+
+-- bytes ask for one thing at most
+abbrev pub OneVerdict : Type 0
+OneVerdict = (bytes : List ℕ) (v w : Verdict) → IsVerdict bytes v → IsVerdict bytes w → v ≡ w

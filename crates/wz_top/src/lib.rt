@@ -16,7 +16,10 @@ mod first_rules;
 mod first_run;
 mod first_vector;
 mod first_writer;
+pub mod laws;
 mod outcome;
+#[cfg(test)]
+mod tests;
 mod top;
 mod turn;
 mod words;
