@@ -1,6 +1,6 @@
 //! Published modules and the answers to them, and devices that fail.
 
-use crate::{ExportFault, Outcome, Report, wizer};
+use crate::{ExportFault, Outcome, wizer};
 use std::alloc::{AllocError, Global};
 use std::test::Fail;
 use wz_io::{CallKind, MemFiles, MemSink};
@@ -23,14 +23,6 @@ const GLOBALS_AFTER: &[u8] = b"\x06\x06\x01\x7F\x01\x41\x2A\x0B";
 
 const EXPORTS_AFTER: &[u8] = b"\x07\x01\0";
 
-#[derive(Clone, Copy)]
-enum Want<'a> {
-    /// So many ticks, and these bytes behind the header.
-    Done(u64, &'a [&'a [u8]]),
-    NotYet,
-    NoInit,
-}
-
 fn joined(alloc: Global, pieces: &[&[u8]]) -> Result<Vec<u8>, AllocError> {
     let mut bytes = Vec::from_slice(alloc, HEADER)?;
     for piece in pieces {
@@ -47,192 +39,112 @@ fn texts(alloc: Global, words: &[&str]) -> Result<Vec<Text>, AllocError> {
     Ok(texts)
 }
 
-fn is_as_wanted(
-    alloc: Global,
-    outcome: &Outcome,
-    files: &MemFiles,
-    want: Want<'_>,
-) -> Result<bool, Fail> {
-    Ok(match (want, outcome) {
-        (Want::Done(ticks, pieces), Outcome::Done(report)) => {
-            let bytes = joined(alloc, pieces)?;
-            let wanted = Report {
-                ticks,
-                pages: 0,
-                segments: 0,
-                bytes: bytes.len() as u64,
-            };
-            *report == wanted && files.file("out.wasm") == Some(bytes.as_slice())
-        }
-        (Want::NotYet, Outcome::NotYet) => files.file("out.wasm").is_none(),
-        (Want::NoInit, Outcome::Exports(ExportFault::NoInit { name })) => {
-            name.as_str() == "wizer.initialize" && files.file("out.wasm").is_none()
-        }
-        _ => false,
-    })
+const WORDS: [&str; 3] = ["in.wasm", "-o", "out.wasm"];
+
+// The outcome, and the files behind it, where the input has these pieces.
+fn answer(alloc: Global, pieces: &[&[u8]]) -> Result<(Outcome, MemFiles), AllocError> {
+    let mut files = MemFiles::new(alloc, Vec::new(alloc), 4096);
+    let mut messages = MemSink::new(alloc, Some(1));
+    files.put_file("in.wasm", joined(alloc, pieces)?)?;
+    let outcome = wizer(alloc, &texts(alloc, &WORDS)?, &mut files, &mut messages);
+    Ok((outcome, files))
 }
 
 #[test]
-fn modules_have_their_answers(rt: HostRuntime) -> Result<(), Fail> {
+fn modules_go_through(rt: HostRuntime) -> Result<(), Fail> {
     let alloc = rt.alloc();
-    let table: [(&str, &[&[u8]], Want<'_>); 16] = [
+    let padded: &[u8] = b"\x0A\x09\x01\x07\0\x41\xAA\0\x24\0\x0B";
+    let sum: &[u8] = b"\x0A\x0E\x01\x0C\0\x23\0\x23\x01\x6A\x41\x7F\x6A\x24\x01\x0B";
+    // The type section's size is padded, and so is the index of a global among the exports.
+    let padded_types: &[u8] = b"\x01\x84\0\x01\x60\0\0";
+    let two_globals: &[u8] = b"\x06\x0B\x02\x7F\0\x41\x7E\x0B\x7F\x01\x41\x01\x0B";
+    let two_globals_after: &[u8] = b"\x06\x0B\x02\x7F\0\x41\x7E\x0B\x7F\x01\x41\x7E\x0B";
+    let three: &[u8] = b"\x07\x1D\x03\x01g\x03\x81\0\x10wizer.initialize\0\0\x01f\0\0";
+    let two: &[u8] = b"\x07\x09\x02\x01g\x03\x01\x01f\0\0";
+    let table: [([&[u8]; 5], u64, [&[u8]; 5]); 3] = [
         (
-            "one global",
-            &[TYPES, FUNCTIONS, GLOBALS, EXPORTS, CODE],
-            Want::Done(3, &[TYPES, FUNCTIONS, GLOBALS_AFTER, EXPORTS_AFTER, CODE]),
+            [TYPES, FUNCTIONS, GLOBALS, EXPORTS, CODE],
+            3,
+            [TYPES, FUNCTIONS, GLOBALS_AFTER, EXPORTS_AFTER, CODE],
         ),
         (
-            "a padded number in the code, which is kept",
-            &[
-                TYPES,
-                FUNCTIONS,
-                GLOBALS,
-                EXPORTS,
-                b"\x0A\x09\x01\x07\0\x41\xAA\0\x24\0\x0B",
-            ],
-            Want::Done(
-                3,
-                &[
-                    TYPES,
-                    FUNCTIONS,
-                    GLOBALS_AFTER,
-                    EXPORTS_AFTER,
-                    b"\x0A\x09\x01\x07\0\x41\xAA\0\x24\0\x0B",
-                ],
-            ),
+            [TYPES, FUNCTIONS, GLOBALS, EXPORTS, padded],
+            3,
+            [TYPES, FUNCTIONS, GLOBALS_AFTER, EXPORTS_AFTER, padded],
         ),
         (
-            "a padded size, a negative sum and two exports that stay",
-            &[
-                b"\x01\x84\0\x01\x60\0\0",
-                FUNCTIONS,
-                b"\x06\x0B\x02\x7F\0\x41\x7E\x0B\x7F\x01\x41\x01\x0B",
-                b"\x07\x1D\x03\x01g\x03\x81\0\x10wizer.initialize\0\0\x01f\0\0",
-                b"\x0A\x0E\x01\x0C\0\x23\0\x23\x01\x6A\x41\x7F\x6A\x24\x01\x0B",
-            ],
-            Want::Done(
-                7,
-                &[
-                    TYPES,
-                    FUNCTIONS,
-                    b"\x06\x0B\x02\x7F\0\x41\x7E\x0B\x7F\x01\x41\x7E\x0B",
-                    b"\x07\x09\x02\x01g\x03\x01\x01f\0\0",
-                    b"\x0A\x0E\x01\x0C\0\x23\0\x23\x01\x6A\x41\x7F\x6A\x24\x01\x0B",
-                ],
-            ),
+            [padded_types, FUNCTIONS, two_globals, three, sum],
+            7,
+            [TYPES, FUNCTIONS, two_globals_after, two, sum],
         ),
-        (
-            "no export",
-            &[TYPES, FUNCTIONS, GLOBALS, EXPORTS_AFTER, CODE],
-            Want::NoInit,
-        ),
-        ("no section", &[], Want::NotYet),
+    ];
+    for (pieces, ticks, after) in table {
+        let (outcome, files) = answer(alloc, &pieces)?;
+        let output = joined(alloc, &after)?;
+        let Outcome::Done(report) = &outcome else {
+            panic!(rt; "{ticks} ticks: not done");
+        };
+        assert_eq!(rt; report.ticks, ticks);
+        assert_eq!(rt; report.bytes, output.len() as u64);
+        assert!(rt; files.file("out.wasm") == Some(output.as_slice()));
+    }
+    Ok(())
+}
+
+// The published module with one of its sections replaced.
+#[test]
+fn other_modules_are_not_yet_built(rt: HostRuntime) -> Result<(), Fail> {
+    let alloc = rt.alloc();
+    let table: [(&str, usize, &[u8]); 12] = [
+        ("no such section", 0, b"\0\x01\0"),
         (
             "a section twice",
-            &[TYPES, TYPES, FUNCTIONS, GLOBALS, EXPORTS, CODE],
-            Want::NotYet,
+            0,
+            b"\x01\x04\x01\x60\0\0\x01\x04\x01\x60\0\0",
         ),
+        ("out of order", 0, b"\x03\x02\x01\0\x01\x04\x01\x60\0\0"),
+        ("a section less", 4, b""),
+        ("a byte more", 4, b"\x0A\x08\x01\x06\0\x41\x2A\x24\0\x0B\0"),
+        ("a byte less", 4, b"\x0A\x08\x01\x06\0\x41\x2A\x24\0"),
+        ("type i64", 2, b"\x06\x06\x01\x7E\x01\x42\0\x0B"),
+        ("a constant that is set", 2, b"\x06\x06\x01\x7F\0\x41\0\x0B"),
+        ("an operand left", 4, b"\x0A\x06\x01\x04\0\x41\x2A\x0B"),
         (
-            "sections out of order",
-            &[FUNCTIONS, TYPES, GLOBALS, EXPORTS, CODE],
-            Want::NotYet,
-        ),
-        (
-            "a section less",
-            &[TYPES, FUNCTIONS, GLOBALS, EXPORTS],
-            Want::NotYet,
-        ),
-        (
-            "a byte more",
-            &[TYPES, FUNCTIONS, GLOBALS, EXPORTS, CODE, b"\0"],
-            Want::NotYet,
-        ),
-        (
-            "a byte less",
-            &[
-                TYPES,
-                FUNCTIONS,
-                GLOBALS,
-                EXPORTS,
-                b"\x0A\x08\x01\x06\0\x41\x2A\x24\0",
-            ],
-            Want::NotYet,
-        ),
-        (
-            "a global of type i64",
-            &[
-                TYPES,
-                FUNCTIONS,
-                b"\x06\x06\x01\x7E\x01\x42\0\x0B",
-                EXPORTS,
-                CODE,
-            ],
-            Want::NotYet,
-        ),
-        (
-            "an operand that is left",
-            &[
-                TYPES,
-                FUNCTIONS,
-                GLOBALS,
-                EXPORTS,
-                b"\x0A\x06\x01\x04\0\x41\x2A\x0B",
-            ],
-            Want::NotYet,
-        ),
-        (
-            "an operand that is missing",
-            &[
-                TYPES,
-                FUNCTIONS,
-                GLOBALS,
-                EXPORTS,
-                b"\x0A\x07\x01\x05\0\x41\x2A\x6A\x0B",
-            ],
-            Want::NotYet,
-        ),
-        (
-            "a constant global that is set",
-            &[
-                TYPES,
-                FUNCTIONS,
-                b"\x06\x06\x01\x7F\0\x41\0\x0B",
-                EXPORTS,
-                CODE,
-            ],
-            Want::NotYet,
+            "an operand missing",
+            4,
+            b"\x0A\x07\x01\x05\0\x41\x2A\x6A\x0B",
         ),
         (
             "a name twice",
-            &[
-                TYPES,
-                FUNCTIONS,
-                GLOBALS,
-                b"\x07\x1C\x03\x10wizer.initialize\0\0\x01g\x03\0\x01g\x03\0",
-                CODE,
-            ],
-            Want::NotYet,
+            3,
+            b"\x07\x1C\x03\x10wizer.initialize\0\0\x01g\x03\0\x01g\x03\0",
         ),
-        (
-            "an initialisation that is a global",
-            &[
-                TYPES,
-                FUNCTIONS,
-                GLOBALS,
-                b"\x07\x14\x01\x10wizer.initialize\x03\0",
-                CODE,
-            ],
-            Want::NotYet,
-        ),
+        ("no function", 3, b"\x07\x14\x01\x10wizer.initialize\x03\0"),
     ];
-    let words = texts(alloc, &["in.wasm", "-o", "out.wasm"])?;
-    for (name, pieces, want) in table {
-        let mut files = MemFiles::new(alloc, Vec::new(alloc), 4096);
-        let mut messages = MemSink::new(alloc, Some(1));
-        files.put_file("in.wasm", joined(alloc, pieces)?)?;
-        let outcome = wizer(alloc, &words, &mut files, &mut messages);
-        assert!(rt; is_as_wanted(alloc, &outcome, &files, want)?, "{name}");
+    for (name, at, section) in table {
+        let mut pieces = [TYPES, FUNCTIONS, GLOBALS, EXPORTS, CODE];
+        if let Some(piece) = pieces.get_mut(at) {
+            *piece = section;
+        }
+        let (outcome, files) = answer(alloc, &pieces)?;
+        assert!(rt; matches!(&outcome, Outcome::NotYet), "{name}");
+        assert!(rt; files.file("out.wasm").is_none(), "{name}");
     }
+    Ok(())
+}
+
+#[test]
+fn a_module_without_an_initialisation_is_refused(rt: HostRuntime) -> Result<(), Fail> {
+    let (outcome, files) = answer(
+        rt.alloc(),
+        &[TYPES, FUNCTIONS, GLOBALS, EXPORTS_AFTER, CODE],
+    )?;
+    let Outcome::Exports(ExportFault::NoInit { name }) = &outcome else {
+        panic!(rt; "not refused");
+    };
+    assert_eq!(rt; name.as_str(), "wizer.initialize");
+    assert_eq!(rt; outcome.code(), 1);
+    assert!(rt; files.file("out.wasm").is_none());
     Ok(())
 }
 
@@ -273,7 +185,7 @@ fn a_device_that_fails_is_named(rt: HostRuntime) -> Result<(), Fail> {
         (CallKind::Write, 3, 2, Some(32)),
         (CallKind::Close, 1, 2, Some(39)),
     ];
-    let words = texts(alloc, &["in.wasm", "-o", "out.wasm"])?;
+    let words = texts(alloc, &WORDS)?;
     let input = joined(alloc, &[TYPES, FUNCTIONS, GLOBALS, EXPORTS, CODE])?;
     let output = joined(
         alloc,
@@ -302,7 +214,7 @@ fn a_device_that_fails_is_named(rt: HostRuntime) -> Result<(), Fail> {
 #[test]
 fn an_input_that_is_missing_or_too_long_makes_no_output(rt: HostRuntime) -> Result<(), Fail> {
     let alloc = rt.alloc();
-    let words = texts(alloc, &["in.wasm", "-o", "out.wasm"])?;
+    let words = texts(alloc, &WORDS)?;
     let mut files = MemFiles::new(alloc, Vec::new(alloc), 65_536);
     let mut messages = MemSink::new(alloc, None);
     let missing = wizer(alloc, &words, &mut files, &mut messages);
