@@ -35,42 +35,54 @@ pub trait Linear: Drop {
     /// Adds so many pages of zeros at the end.
     fn grow(&mut self, pages: u32) -> Result<(), AllocError>
         requires { length (contents self.old) + pages * PAGE_SIZE ≤ MAX_PAGES * PAGE_SIZE }
-        ensures grown { OnOk result (contents self.new ≡ contents self.old ++ replicate (pages * PAGE_SIZE) 0) }
+        ensures grown { OnOk result
+            (contents self.new ≡ contents self.old ++ replicate (pages * PAGE_SIZE) 0) }
         ensures refused { OnErr result (contents self.new ≡ contents self.old) };
 
     /// The number whose bytes, the lowest first, stand at `at`.
     fn load(&self, at: u64, width: u32) -> Option<u64>
         requires { IsWidth width }
-        ensures found { SomeIff result (IsWithin (contents self.now) at width) (number_of (part (contents self.now) at width)) }
+        ensures found { SomeIff result
+            (IsWithin (contents self.now) at width) (number_of (part (contents self.now) at width)) }
         ensures narrow { IfSome result (λ number. number < 256 ^ width) };
 
     /// Writes the lowest bytes of the value, the lowest first, at `at`.
     fn store(&mut self, at: u64, value: u64, width: u32) -> Result<bool, AllocError>
         requires { IsWidth width }
         ensures within { IfOk result (λ done. IsTrue done ↔ IsWithin (contents self.old) at width) }
-        ensures stored { IfOk result (λ done. OnTrue done (contents self.new ≡ written (contents self.old) at (bytes_of width value))) }
-        ensures outside { IfOk result (λ done. OnFalse done (contents self.new ≡ contents self.old)) }
+        ensures stored { IfOk result (λ done. OnTrue done
+            (contents self.new ≡ written (contents self.old) at (bytes_of width value))) }
+        ensures outside { IfOk result (λ done. OnFalse done
+            (contents self.new ≡ contents self.old)) }
         ensures refused { OnErr result (contents self.new ≡ contents self.old) };
 
     /// Writes the byte to each of `len` places from `at` on.
     fn fill(&mut self, at: u64, byte: u8, len: u64) -> Result<bool, AllocError>
         ensures within { IfOk result (λ done. IsTrue done ↔ IsWithin (contents self.old) at len) }
-        ensures filled { IfOk result (λ done. OnTrue done (contents self.new ≡ written (contents self.old) at (replicate len byte))) }
-        ensures outside { IfOk result (λ done. OnFalse done (contents self.new ≡ contents self.old)) }
+        ensures filled { IfOk result (λ done. OnTrue done
+            (contents self.new ≡ written (contents self.old) at (replicate len byte))) }
+        ensures outside { IfOk result (λ done. OnFalse done
+            (contents self.new ≡ contents self.old)) }
         ensures refused { OnErr result (contents self.new ≡ contents self.old) };
 
     /// Writes the `len` bytes that stood at `from` to `to`, as if through a buffer.
     fn copy(&mut self, to: u64, from: u64, len: u64) -> Result<bool, AllocError>
-        ensures within { IfOk result (λ done. IsTrue done ↔ (IsWithin (contents self.old) to len × IsWithin (contents self.old) from len)) }
-        ensures copied { IfOk result (λ done. OnTrue done (contents self.new ≡ written (contents self.old) to (part (contents self.old) from len))) }
-        ensures outside { IfOk result (λ done. OnFalse done (contents self.new ≡ contents self.old)) }
+        ensures within { IfOk result (λ done. IsTrue done ↔
+            (IsWithin (contents self.old) to len × IsWithin (contents self.old) from len)) }
+        ensures copied { IfOk result (λ done. OnTrue done
+            (contents self.new ≡ written (contents self.old) to (part (contents self.old) from len))) }
+        ensures outside { IfOk result (λ done. OnFalse done
+            (contents self.new ≡ contents self.old)) }
         ensures refused { OnErr result (contents self.new ≡ contents self.old) };
 
     /// Writes these bytes from `at` on.
     fn write_slice(&mut self, at: u64, bytes: &[u8]) -> Result<bool, AllocError>
-        ensures within { IfOk result (λ done. IsTrue done ↔ IsWithin (contents self.old) at (length bytes.now)) }
-        ensures copied { IfOk result (λ done. OnTrue done (contents self.new ≡ written (contents self.old) at bytes.now)) }
-        ensures outside { IfOk result (λ done. OnFalse done (contents self.new ≡ contents self.old)) }
+        ensures within { IfOk result (λ done. IsTrue done ↔
+            IsWithin (contents self.old) at (length bytes.now)) }
+        ensures copied { IfOk result (λ done. OnTrue done
+            (contents self.new ≡ written (contents self.old) at bytes.now)) }
+        ensures outside { IfOk result (λ done. OnFalse done
+            (contents self.new ≡ contents self.old)) }
         ensures refused { OnErr result (contents self.new ≡ contents self.old) };
 
     /// Copies the bytes from `at` on, as many as `out` takes.

@@ -21,7 +21,8 @@ impl Model for PlainMemory {
 
     ghost view = { λ m. m.bytes.items };
 
-    ghost invariant = { λ m. (length m.bytes.items % 65536 ≡ 0) × (length m.bytes.items ≤ 65536 * 65536) };
+    ghost invariant = { λ m. (length m.bytes.items % 65536 ≡ 0)
+        × (length m.bytes.items ≤ 65536 * 65536) };
 }
 
 impl PlainMemory {
@@ -68,7 +69,8 @@ impl Linear for PlainMemory {
     fn store(&mut self, at: u64, value: u64, width: u32) -> Result<bool, AllocError>
         requires { IsWidth width }
         ensures within { IfOk result (λ done. IsTrue done ↔ IsWithin self.old at width) }
-        ensures stored { IfOk result (λ done. OnTrue done (self.new ≡ written self.old at (bytes_of width value))) }
+        ensures stored { IfOk result (λ done. OnTrue done
+            (self.new ≡ written self.old at (bytes_of width value))) }
         ensures outside { IfOk result (λ done. OnFalse done (self.new ≡ self.old)) }
         ensures refused { OnErr result (self.new ≡ self.old) }
         ensures never_refused { IsOk result }
@@ -84,7 +86,8 @@ impl Linear for PlainMemory {
 
     fn fill(&mut self, at: u64, byte: u8, len: u64) -> Result<bool, AllocError>
         ensures within { IfOk result (λ done. IsTrue done ↔ IsWithin self.old at len) }
-        ensures filled { IfOk result (λ done. OnTrue done (self.new ≡ written self.old at (replicate len byte))) }
+        ensures filled { IfOk result (λ done. OnTrue done
+            (self.new ≡ written self.old at (replicate len byte))) }
         ensures outside { IfOk result (λ done. OnFalse done (self.new ≡ self.old)) }
         ensures refused { OnErr result (self.new ≡ self.old) }
         ensures never_refused { IsOk result }
@@ -99,8 +102,10 @@ impl Linear for PlainMemory {
     }
 
     fn copy(&mut self, to: u64, from: u64, len: u64) -> Result<bool, AllocError>
-        ensures within { IfOk result (λ done. IsTrue done ↔ (IsWithin self.old to len × IsWithin self.old from len)) }
-        ensures copied { IfOk result (λ done. OnTrue done (self.new ≡ written self.old to (part self.old from len))) }
+        ensures within { IfOk result (λ done. IsTrue done ↔
+            (IsWithin self.old to len × IsWithin self.old from len)) }
+        ensures copied { IfOk result (λ done. OnTrue done
+            (self.new ≡ written self.old to (part self.old from len))) }
         ensures outside { IfOk result (λ done. OnFalse done (self.new ≡ self.old)) }
         ensures refused { OnErr result (self.new ≡ self.old) }
         ensures never_refused { IsOk result }
@@ -115,8 +120,10 @@ impl Linear for PlainMemory {
     }
 
     fn write_slice(&mut self, at: u64, bytes: &[u8]) -> Result<bool, AllocError>
-        ensures within { IfOk result (λ done. IsTrue done ↔ IsWithin self.old at (length bytes.now)) }
-        ensures copied { IfOk result (λ done. OnTrue done (self.new ≡ written self.old at bytes.now)) }
+        ensures within { IfOk result (λ done. IsTrue done ↔
+            IsWithin self.old at (length bytes.now)) }
+        ensures copied { IfOk result (λ done. OnTrue done
+            (self.new ≡ written self.old at bytes.now)) }
         ensures outside { IfOk result (λ done. OnFalse done (self.new ≡ self.old)) }
         ensures refused { OnErr result (self.new ≡ self.old) }
         ensures never_refused { IsOk result }
