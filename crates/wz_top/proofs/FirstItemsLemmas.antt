@@ -1,12 +1,10 @@
 -- A vector that was read item by item is what its reading as a function gives.
-use Rattle.std.proofs.Common.{◌≡◌, ℕ, zero, suc, List, [], ◌∷◌, ◌++◌, length, map, Option, Some, None, refl, sym, ap, subst, ◌∙◌, ◌<◌, arith, ◌⊎◌, inl, inr}
+use Rattle.std.proofs.Common.{◌≡◌, ℕ, zero, suc, List, [], ◌∷◌, ◌++◌, length, map, Option, Some, None, refl, sym, ap, subst, ◌<◌, arith, inl, inr}
 use Rattle.std.specs.Prelude.{Bool}
 use Rattle.std.proofs.lemmas.Bool.{ne_eqb}
-use Rattle.wz_bytes.specs.Reading.{◌>>=◌}
-use Rattle.wz_bytes.specs.Unsigned.{unsigned_at}
 use Rattle.wz_bytes.specs.Forms.{items_at, vector_at, all_at}
 use Rattle.std.specs.Prelude.{◌≢◌, ◌==◌, if◌then◌else◌, Result, Ok, Err, IfOk}
-use Rattle.wz_top.specs.FirstItems.{ItemsRead, VectorRead, ItemsBad, CountedBad, VectorBad, NotAll}
+use Rattle.wz_top.specs.FirstItems.{ItemsRead, VectorRead, VectorBad, NotAll}
 
 pub read-push : {X : Type 0} (Reads : List ℕ → X → List ℕ → Type 0) (bytes mid rest : List ℕ) (xs : List X) (x : X) → ItemsRead Reads bytes xs mid → Reads mid x rest → ItemsRead Reads bytes (xs ++ x ∷ []) rest
 read-push Reads bytes mid rest [] x h k = (rest, subst (λ (b : List ℕ). Reads b x rest) (sym h) k, refl)

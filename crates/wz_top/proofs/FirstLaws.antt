@@ -1,5 +1,5 @@
 -- The readings of the forms of such a module are exact, so bytes spell one module at most.
-use Rattle.std.proofs.Common.{◌≡◌, ℕ, zero, suc, ◌+◌, ◌-◌, ◌<◌, ◌≤◌, List, [], ◌∷◌, ◌++◌, length, take, drop, Option, Some, None, Bool, true, false, cond, refl, sym, ap, subst, ◌∙◌, append_assoc, arith, ◌⊎◌, inl, inr}
+use Rattle.std.proofs.Common.{◌≡◌, ℕ, zero, suc, ◌+◌, ◌-◌, ◌<◌, ◌≤◌, List, [], ◌∷◌, ◌++◌, length, take, Option, Some, None, Bool, true, false, cond, refl, sym, ap, subst, ◌∙◌, append_assoc, arith, inl, inr}
 use Rattle.std.specs.Prelude.{nat_eq}
 use Rattle.std.specs.Int.{w32, cast_unsigned}
 use Rattle.std.proofs.lemmas.Bool.{eqb-true, eq-eqb, ne_eqb}
@@ -14,10 +14,8 @@ use Rattle.wz_bytes.proofs.UnsignedLaws.{unsigned_exact}
 use Rattle.wz_bytes.proofs.SignedLaws.{signed_exact}
 use Rattle.wz_bytes.proofs.NameLaws.{name_exact}
 use Rattle.wz_bytes.proofs.FormLaws.{both_exact, tagged_exact, made_exact, sized_exact, vector_exact}
-use Rattle.wz_top.specs.FirstGrammar
-use Rattle.wz_top.specs.FirstGrammar.{Module, Export, IsNumber, IsEnd, IsIndex, IsInteger, WithText, IsMutability, IsGlobal, IsTarget, IsExport, IsInstruction, IsExpression, IsOneType, IsOneFunction, IsOneBody, IsSection, AreSections, global_of, export_of, module_of}
-use Rattle.wz_top.specs.FirstReading.{Reading, number_at, end_at, index_at, integer_at, with_text_at, mutability_at, global_at, target_at, export_at, instruction_at, instructions_at, expression_at, end_or, one_type_at, one_function_at, entry_at, one_body_at, section_at, sections_at}
-use Rattle.wz_top.specs.declared.first_grammar.Global.{Global}
+use Rattle.wz_top.specs.FirstGrammar.{IsNumber, IsEnd, IsIndex, IsInteger, WithText, IsMutability, IsGlobal, IsTarget, IsExport, IsInstruction, IsExpression, IsOneType, IsOneFunction, IsOneBody, IsSection, AreSections, global_of, export_of, module_of}
+use Rattle.wz_top.specs.FirstReading.{number_at, end_at, index_at, integer_at, with_text_at, mutability_at, global_at, target_at, export_at, instruction_at, instructions_at, expression_at, end_or, one_type_at, one_function_at, entry_at, one_body_at, section_at, sections_at}
 use Rattle.wz_top.specs.declared.first_grammar.Target.{Target}
 use Rattle.wz_top.specs.declared.first_grammar.Target.TheVariants as target
 use Rattle.wz_top.specs.declared.first_grammar.Instruction.{Instruction}

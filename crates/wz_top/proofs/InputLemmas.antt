@@ -2,7 +2,6 @@
 use Rattle.std.proofs.Common.{◌≡◌, ℕ, ◌+◌, ◌≤◌, ◌<◌, List, ◌++◌, length, refl, sym, ap, subst, ◌∙◌, arith, length-append}
 use Rattle.std.specs.Prelude.{Option, None, Some, IfSome, IsSome}
 use Rattle.std.specs.Option.{option_and_then}
-use Rattle.std.specs.Io.KnownBytes.{prepend_known}
 use Rattle.std.specs.FinMap.{get}
 use Rattle.wz_io.specs.World.{Told, Name, Standard, File, Contents, input_of, IsThere}
 use Rattle.wz_io.specs.Reading.{TakesSome}

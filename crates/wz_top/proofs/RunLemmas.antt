@@ -1,7 +1,7 @@
 -- How a run may end, exit by exit.
-use Rattle.std.proofs.Common.{◌≡◌, ℕ, ◌+◌, ◌-◌, ◌^◌, ◌≤◌, ◌<◌, min, List, [], length, take, refl, sym, ap, subst, ◌∙◌, arith, inl, inr}
-use Rattle.std.specs.Prelude.{Option, None, Some, ◌⊎◌, IfSome, IsSome, IsSomeAnd}
-use Rattle.wz_io.specs.World.{World, Told, Current, Name, HasFailed, Rose, input_of, written}
+use Rattle.std.proofs.Common.{◌≡◌, ℕ, ◌≤◌, ◌<◌, List, [], length, take, refl, sym, ap, subst, ◌∙◌, arith, inl, inr}
+use Rattle.std.specs.Prelude.{Option, None, Some, ◌⊎◌, IsSomeAnd}
+use Rattle.wz_io.specs.World.{World, Told, Name, HasFailed, Rose, written}
 use Rattle.wz_io.specs.declared.files.Side.{Side}
 use Rattle.wz_io.specs.declared.files.Side.TheVariants.{Input, Output}
 use Rattle.wz_top.specs.Devices.{IsInput, HasWritten, HoldsPrefix, OnlyRead}
@@ -9,9 +9,8 @@ use Rattle.wz_top.specs.Words.{Names}
 use Rattle.wz_top.specs.Verdict.{Verdict, Refuses, Gives, IsVerdict, IsRefusedBy}
 use Rattle.wz_top.specs.Asked.{Asked, Answers, Writes, NamesAsk, BytesAsk, asked_by, IsTold, IsAnswer, Ran, IsComplete, IsDoneOrNoMemory, OnInputFault, OnOutputFault}
 use Rattle.wz_top.specs.declared.outcome.Report.{Report}
-use Rattle.wz_top.specs.declared.outcome.ExportFault.{ExportFault}
 use Rattle.wz_top.specs.declared.outcome.Outcome.{Outcome}
-use Rattle.wz_top.specs.declared.outcome.Outcome.TheVariants.{Done, NotYet, Exports, InputFault, InputTooLong, OutputFault, NoMemory}
+use Rattle.wz_top.specs.declared.outcome.Outcome.TheVariants.{Done, InputFault, InputTooLong, OutputFault, NoMemory}
 use Rattle.wz_top.proofs.InputLemmas.{one_input}
 use Rattle.wz_top.proofs.VerdictLaws.{one_verdict}
 

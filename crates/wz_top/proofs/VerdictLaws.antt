@@ -1,5 +1,5 @@
 -- Bytes ask for one thing at most, and what the steps find is what they ask for.
-use Rattle.std.proofs.Common.{◌≡◌, ℕ, suc, ◌<◌, List, [], ◌∷◌, ◌++◌, length, map, take, drop, Bool, true, false, cond, refl, sym, ap, subst, ◌∙◌, inl, inr, ◌⊎◌, arith, get_or}
+use Rattle.std.proofs.Common.{◌≡◌, ℕ, suc, ◌<◌, List, [], ◌∷◌, ◌++◌, map, take, drop, Bool, true, false, refl, sym, ap, subst, ◌∙◌, arith}
 use Rattle.std.specs.declared.alloc.Global.{Global as Heap}
 use Rattle.std.specs.declared.alloc.AllocError.{AllocError}
 use Rattle.std.specs.Prelude.{Option, Some, None, Result, Ok, Err, Vec, IfOk, IfSome, IsNone, All, Any, nat_eq, IsTrue, ◌≢◌}
@@ -9,12 +9,11 @@ use Rattle.std.proofs.lemmas.List.{take-append-drop, get_or-map}
 use Rattle.std.proofs.lemmas.Simd.{map-map}
 use Rattle.std.proofs.lemmas.List.Elements.{All-nil, All-cons, All-head, All-tail, All-map, All-get_or}
 use Rattle.std.proofs.Math.ListN.{length-map}
-use Rattle.wz_bytes.specs.Forms.{all_at}
 use Rattle.wz_bytes.proofs.FormLaws.{all_found, all_again}
 use Rattle.wz_bytes.proofs.ReadingLemmas.{some_is, guarded, none_given}
 use Rattle.wz_top.specs.FirstGrammar.{Module, Export, Spells, AreSections, header}
 use Rattle.wz_top.specs.FirstReading.{module_at, sections_at}
-use Rattle.wz_top.specs.FirstRun.{State, IsFirst, IsGoing, Leaves, IsTargetOk, HaveDistinctNames, AreDistinct, initialize, run}
+use Rattle.wz_top.specs.FirstRun.{State, IsFirst, IsGoing, Leaves, IsTargetOk, AreDistinct, initialize}
 use Rattle.wz_top.specs.FirstViews.{export_view, module_view}
 use Rattle.wz_top.specs.FirstWriter.{output, report}
 use Rattle.wz_top.specs.declared.first_grammar.Module.{Module as ModuleStruct}
@@ -22,10 +21,9 @@ use Rattle.wz_top.specs.Verdict.{Verdict, Refuses, Gives, IsVerdict, IsRefusedBy
 use Rattle.wz_top.specs.declared.first_grammar.Global.{Global}
 use Rattle.wz_top.specs.declared.first_grammar.Instruction.{Instruction}
 use Rattle.wz_top.specs.declared.outcome.Report.{Report}
-use Rattle.wz_top.specs.declared.outcome.ExportFault.{ExportFault}
 use Rattle.wz_top.specs.declared.outcome.ExportFault.TheVariants as fault
 use Rattle.wz_top.specs.declared.outcome.Outcome.{Outcome}
-use Rattle.wz_top.specs.declared.outcome.Outcome.TheVariants.{NotYet, Exports, Done, InputFault, InputTooLong, OutputFault, NoMemory}
+use Rattle.wz_top.specs.declared.outcome.Outcome.TheVariants.{NotYet, Exports, NoMemory}
 use Rattle.wz_top.proofs.FirstLaws.{sections_exact}
 
 -- ---- one module

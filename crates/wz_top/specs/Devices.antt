@@ -1,7 +1,7 @@
 -- What a run leaves in the files.
-use Rattle.std.specs.Prelude.{◌≡◌, ◌⊎◌, ℕ, ◌≤◌, false, List, take, Option, Some, IfSome, IsSomeAnd, IsSome, ⊤}
+use Rattle.std.specs.Prelude.{◌≡◌, ◌⊎◌, ℕ, ◌≤◌, false, List, take, Option, Some, IfSome, IsSomeAnd}
 use Rattle.std.specs.FinMap.{get}
-use Rattle.wz_io.specs.World.{World, Told, Name, Standard, File, Current, written, input_of}
+use Rattle.wz_io.specs.World.{World, Told, Name, Standard, File, Current, written}
 use Rattle.wz_io.specs.declared.files.Side.TheVariants.{Input, Output}
 
 -- These are the bytes of the input of that name. Where files are told, there has to be one with these bytes.

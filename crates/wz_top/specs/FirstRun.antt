@@ -1,5 +1,5 @@
 -- What the code of such a module does: section 4.4 of the Core Specification, for four instructions.
-use Rattle.std.specs.Prelude.{◌≡◌, ◌≢◌, ℕ, ◌+◌, ◌%◌, ◌^◌, ◌<◌, Bool, List, [], ◌∷◌, length, slice_get, slice_set, Option, Some, None, if◌then◌else◌, All, map, codes, ⊤}
+use Rattle.std.specs.Prelude.{◌≡◌, ◌≢◌, ℕ, ◌+◌, ◌%◌, ◌^◌, ◌<◌, List, [], ◌∷◌, length, slice_get, slice_set, Option, Some, None, if◌then◌else◌, All, map, codes, ⊤}
 use Rattle.std.specs.Option.{option_map, option_and_then}
 use Rattle.wz_top.specs.FirstGrammar.{Module, Export, Spells}
 use Rattle.wz_top.specs.declared.first_grammar.Global.{Global}

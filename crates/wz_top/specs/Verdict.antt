@@ -1,6 +1,6 @@
 -- What the bytes of an input ask for.
 use Rattle.std.specs.Prelude.{◌≡◌, ◌≢◌, ℕ, List, All, Any, ⊤}
-use Rattle.wz_top.specs.FirstGrammar.{Module, Export}
+use Rattle.wz_top.specs.FirstGrammar.{Module}
 use Rattle.wz_top.specs.FirstRun.{IsFirst, initialize}
 use Rattle.wz_top.specs.FirstWriter.{output, report}
 use Rattle.wz_top.specs.declared.first_grammar.Global.{Global}

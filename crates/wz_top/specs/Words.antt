@@ -1,5 +1,5 @@
 -- What the words of the command line name. The words are this tool's own.
-use Rattle.std.specs.Prelude.{ℕ, Bool, true, false, ◌&&◌, ◌==◌, not, if◌then◌else◌, List, [], ◌∷◌, Option, None, Some}
+use Rattle.std.specs.Prelude.{ℕ, Bool, false, ◌&&◌, ◌==◌, not, if◌then◌else◌, List, [], ◌∷◌, Option, None, Some}
 use Rattle.wz_io.specs.World.{Name, File}
 
 pub record Names : Type 0 where

@@ -6,10 +6,7 @@ ghost use Rattle.wz_io.specs.declared.files.Side.TheVariants.{Input};
 ghost use Rattle.wz_top.specs.Devices.{IsInput, OnlyRead};
 
 use std::alloc::Global;
-use wz_io::{FileName, Files, OpenFault, ReadAll, read_all};
-
-/// The greatest number of bytes that an input may have.
-pub const INPUT_LIMIT: usize = 33_554_432;
+use wz_io::{FileName, Files, INPUT_LIMIT, OpenFault, ReadAll, read_all};
 
 /// All bytes of the input of that name.
 pub fn fetch<F: Files>(alloc: Global, files: &mut F, name: FileName<'_>) -> Result<Vec<u8>, ReadAll>

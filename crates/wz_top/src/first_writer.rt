@@ -87,20 +87,20 @@ fn export_contents(alloc: Heap, exports: &[Export<'_>]) -> Result<Vec<u8>, Alloc
 /// The module with these globals and without the initialisation's export.
 pub fn write_module(
     alloc: Heap,
-    module: &Module<'_>,
+    first: &Module<'_>,
     reached: &[Global],
 ) -> Result<Vec<u8>, AllocError>
-    ensures output { IfOk result (λ out. out.items ≡ output (module_view module.now) reached.now) }
+    ensures output { IfOk result (λ out. out.items ≡ output (module_view first.now) reached.now) }
 {
     let globals = global_contents(alloc, reached)?;
-    let left = kept_exports(alloc, &module.exports)?;
+    let left = kept_exports(alloc, &first.exports)?;
     let exports = export_contents(alloc, &left)?;
     let mut out = Vec::new(alloc);
     out.extend_from_slice(&[0x00, 0x61, 0x73, 0x6D, 0x01, 0x00, 0x00, 0x00])?;
-    put_section(&mut out, 1, module.types)?;
-    put_section(&mut out, 3, module.functions)?;
+    put_section(&mut out, 1, first.types)?;
+    put_section(&mut out, 3, first.functions)?;
     put_section(&mut out, 6, &globals)?;
     put_section(&mut out, 7, &exports)?;
-    put_section(&mut out, 10, module.code)?;
+    put_section(&mut out, 10, first.code)?;
     Ok(out)
 }

@@ -42,17 +42,17 @@ pub fn turn(alloc: Heap, bytes: &[u8]) -> Result<(Report, Vec<u8>), Outcome>
 }
 
 /// The globals that the module's code leaves, where the module keeps its rules.
-fn reach(alloc: Heap, module: &Module<'_>) -> Result<Option<Vec<Global>>, AllocError>
-    ensures reached { IfOk result (λ r. IfSome r (λ reached. IsGoing (module_view module.now) reached.items)) }
-    ensures none { IfOk result (λ r. IsNone r → (reached : List Global) → ¬ (IsGoing (module_view module.now) reached)) }
+fn reach(alloc: Heap, first: &Module<'_>) -> Result<Option<Vec<Global>>, AllocError>
+    ensures reached { IfOk result (λ r. IfSome r (λ reached. IsGoing (module_view first.now) reached.items)) }
+    ensures none { IfOk result (λ r. IsNone r → (reached : List Global) → ¬ (IsGoing (module_view first.now) reached)) }
 {
-    if !have_distinct_names(alloc, &module.exports)? {
+    if !have_distinct_names(alloc, &first.exports)? {
         return Ok(None);
     }
-    if !are_targets_ok(&module.exports, &module.globals) {
+    if !are_targets_ok(&first.exports, &first.globals) {
         return Ok(None);
     }
-    execute(alloc, &module.instructions, &module.globals)
+    execute(alloc, &first.instructions, &first.globals)
 }
 
 fn no_initialize(alloc: Heap) -> Outcome
@@ -67,16 +67,16 @@ fn no_initialize(alloc: Heap) -> Outcome
 /// The output, with its report.
 fn finish(
     alloc: Heap,
-    module: &Module<'_>,
+    first: &Module<'_>,
     reached: &[Global],
 ) -> Result<(Report, Vec<u8>), AllocError>
-    requires few { length module.now.instructions.items < 2 ^ 63 }
-    ensures output { IfOk result (λ made. made.1.items ≡ output (module_view module.now) reached.now) }
-    ensures report { IfOk result (λ made. made.0 ≡ report (module_view module.now) reached.now) }
+    requires few { length first.now.instructions.items < 2 ^ 63 }
+    ensures output { IfOk result (λ made. made.1.items ≡ output (module_view first.now) reached.now) }
+    ensures report { IfOk result (λ made. made.0 ≡ report (module_view first.now) reached.now) }
 {
-    let right = write_module(alloc, module, reached)?;
+    let right = write_module(alloc, first, reached)?;
     let report = Report {
-        ticks: module.instructions.len() as u64 + 1,
+        ticks: first.instructions.len() as u64 + 1,
         pages: 0,
         segments: 0,
         bytes: right.len() as u64,

@@ -1,4 +1,4 @@
-use Rattle.std.proofs.Common.{◌≡◌, ◌+◌, ℕ, List, Bor, [], map, take, drop, suc, get_or, subst, sym}
+use Rattle.std.proofs.Common.{ℕ, List, [], map, take, drop, suc, get_or, subst, sym}
 use Rattle.wz_top.specs.FirstRun.{AreDistinct}
 use Rattle.wz_top.specs.declared.first_grammar.Export.{Export}
 use Rattle.wz_top.specs.declared.first_grammar.Target.TheVariants.{Function}

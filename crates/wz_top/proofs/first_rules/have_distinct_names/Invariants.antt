@@ -1,6 +1,4 @@
-use Rattle.std.proofs.Common.{◌≡◌, map, take}
-use Rattle.std.specs.BTreeSet.{contains}
-use Rattle.wz_top.specs.FirstRun.{AreDistinct}
+use Rattle.std.proofs.Common.{map, take}
 use Rattle.wz_top.proofs.FirstRulesLemmas.{HasSeen}
 use Rattle.wz_top.proofs.first_rules.have_distinct_names.Given as goal
 

@@ -1,4 +1,4 @@
-use Rattle.std.proofs.Common.{◌≡◌, ℕ, List, get_or, ap, ◌∙◌}
+use Rattle.std.proofs.Common.{ℕ, List, get_or, ap, ◌∙◌}
 use Rattle.std.specs.Prelude.{Option, Some}
 use Rattle.wz_top.specs.declared.first_grammar.Global.{Global}
 use Rattle.wz_top.specs.declared.first_grammar.Instruction.TheVariants.{Const}

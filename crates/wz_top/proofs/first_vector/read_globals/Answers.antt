@@ -1,7 +1,7 @@
-use Rattle.std.proofs.Common.{◌≡◌, ℕ, List, map, ap, subst, ◌∙◌}
+use Rattle.std.proofs.Common.{List, ap, ◌∙◌}
 use Rattle.std.proofs.lemmas.List.{map-id}
 use Rattle.std.specs.Prelude.{Some}
-use Rattle.wz_top.specs.FirstReading.{global_at, globals_in}
+use Rattle.wz_top.specs.FirstReading.{global_at}
 use Rattle.wz_top.specs.declared.first_grammar.Global.{Global}
 use Rattle.wz_top.proofs.FirstItemsLemmas.{all_gives, all_bad, if_ok}
 use Rattle.wz_top.proofs.first_vector.read_globals.Goals as goal

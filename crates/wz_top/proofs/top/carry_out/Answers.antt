@@ -1,4 +1,4 @@
-use Rattle.std.proofs.Common.{◌≡◌, ℕ, ◌≤◌, List, length, subst, sym}
+use Rattle.std.proofs.Common.{ℕ, ◌≤◌, List, length, subst, sym}
 use Rattle.wz_io.specs.World.{File}
 use Rattle.wz_top.specs.Devices.{IsInput, HasWritten, HoldsPrefix}
 use Rattle.wz_top.specs.Words.{Names}

@@ -1,6 +1,5 @@
 use Rattle.std.proofs.Common.{subst, sym}
 use Rattle.std.specs.Prelude.{Option}
-use Rattle.wz_io.specs.World.{World}
 use Rattle.wz_top.specs.Words.{Names, names}
 use Rattle.wz_top.specs.Asked.{Ran}
 use Rattle.wz_top.proofs.RunLemmas.{complete_by}

@@ -1,4 +1,4 @@
-use Rattle.std.proofs.Common.{◌≡◌, ℕ, List, map, subst, sym, refl}
+use Rattle.std.proofs.Common.{◌≡◌, List, subst, sym, refl}
 use Rattle.std.specs.Prelude.{Any, Option, Some, None, IsNone, IfSome, Vec}
 use Rattle.std.specs.declared.alloc.Global.{Global as Heap}
 use Rattle.wz_top.specs.declared.first_grammar.Global.{Global}
