@@ -31,14 +31,14 @@ numeric_rule instr = NoRule
 -- ---- memory instructions; section 3.3.7
 
 -- the alignment is at most the natural one
-abbrev pub is_aligned : ℕ → AccessShape → Bool
-is_aligned align shape = nat_le (2 ^ align) shape.bytes
+abbrev pub is_aligned : ℕ → ℕ → Bool
+is_aligned align bytes = nat_le (2 ^ align) bytes
 
 abbrev pub access_rule : AccessShape → Rule
 access_rule shape = if shape.store then Exchange (I32 ∷ shape.value ∷ []) [] else Exchange (I32 ∷ []) (shape.value ∷ [])
 
 abbrev pub memory_rule : TypingContext → Instr → Rule
-memory_rule context (Access op align offset memory) = rule_if (nat_lt memory context.memories) (rule_if (is_aligned align (shape_of op)) (access_rule (shape_of op)))
+memory_rule context (Access op align offset memory) = rule_if (nat_lt memory context.memories) (rule_if (is_aligned align (shape_of op).bytes) (access_rule (shape_of op)))
 memory_rule context (MemorySize memory) = rule_if (nat_lt memory context.memories) (Exchange [] (I32 ∷ []))
 memory_rule context (MemoryGrow memory) = rule_if (nat_lt memory context.memories) (Exchange (I32 ∷ []) (I32 ∷ []))
 memory_rule context (MemoryInit segment memory) = rule_if (nat_lt memory context.memories) (rule_if (nat_lt segment context.datas) (Exchange (I32 ∷ I32 ∷ I32 ∷ []) []))
