@@ -1,0 +1,9 @@
+pub mod AddLemmas
+pub mod ChoiceLemmas
+pub mod CoverLemmas
+pub mod FirstRunLemmas
+pub mod GapLemmas
+pub mod JoinLemmas
+pub mod PlaceLemmas
+pub mod PlanLemmas
+pub mod ScanLemmas
