@@ -1,4 +1,5 @@
 pub mod BlockLemmas
+pub mod BuildLemmas
 pub mod ChooseLemmas
 pub mod LawLemmas
 pub mod OuterLemmas

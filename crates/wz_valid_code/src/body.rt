@@ -22,7 +22,9 @@ use wz_types::FuncType;
 /// Why a body or an expression isn't accepted.
 #[derive(Clone, Copy, Debug, PartialEq, Eq)]
 pub enum BodyFault {
+    /// No typing exists.
     Untyped,
+    /// There is no memory for the check.
     NoMemory,
 }
 
@@ -117,7 +119,8 @@ fn is_body_typed(
     is_typed(alloc, &scope, body)
 }
 
-/// Whether the body of a function of type `kind` is typed.
+/// Checks the body of a function of type `kind`: it is refused as untyped exactly where no typing of it
+/// exists. The number of locals costs nothing, only the number of their runs does.
 pub fn check_body(
     alloc: Global,
     context: &Context<'_>,

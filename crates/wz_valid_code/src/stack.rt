@@ -178,7 +178,7 @@ impl Stack {
     pub fn stopped(&mut self)
         ensures { self.new ≡ record { items = []; dead = true } }
     {
-        self.items.clear();
+        self.clear();
         self.dead = true;
     }
 
