@@ -1,0 +1,97 @@
+-- Section 3.1 of the Core Specification: what instructions may name, each with its type.
+use Rattle.std.specs.Prelude.{ℕ, ◌<◌, List, [], ◌∷◌, ◌++◌, Option, Some, None, Bool, true, false, ◌==◌, ◌&&◌, if◌then◌else◌, nat_lt, slice_get, length, replicate, All}
+use Rattle.std.specs.List.{list_any}
+use Rattle.wz_types.specs.declared.types.ValType.{ValType}
+use Rattle.wz_types.specs.declared.types.RefKind.{RefKind}
+use Rattle.wz_types.specs.declared.types.RefKind.TheVariants as kind
+use Rattle.wz_types.specs.declared.types.GlobalType.{GlobalType}
+use Rattle.wz_types.specs.FunctionType.{FunctionType}
+use Rattle.wz_code.specs.declared.instr.Shape.{Shape}
+use Rattle.wz_code.specs.declared.instr.Shape.TheVariants.{Empty, One, Index}
+
+-- What a module has: its types, each function's type by number, the kind of each table and element segment, the globals'
+-- types and how many of them are imported, the numbers of memories and data segments, and the functions that a reference
+-- may be made of. What a run changes, as the sizes of tables and memories, is no part of it.
+pub record TypingContext : Type 0 where
+  pub types : List FunctionType
+  pub functions : List ℕ
+  pub tables : List RefKind
+  pub memories : ℕ
+  pub globals : List GlobalType
+  pub imported_globals : ℕ
+  pub elements : List RefKind
+  pub datas : ℕ
+  pub declared : List ℕ
+
+-- every function's type is there
+abbrev pub HasTypes : TypingContext → Type 0
+HasTypes context = All (λ number. number < length context.types) context.functions
+
+-- a function's body: the types of its locals, parameters first, and of its results
+pub record Scope : Type 0 where
+  pub context : TypingContext
+  pub locals : List ValType
+  pub results : List ValType
+
+-- the types that a branch to each label takes along, the innermost label first
+abbrev pub Labels : Type 0
+Labels = List (List ValType)
+
+-- the locals that these runs stand for: so many of one type, and so on
+abbrev pub spread : List (ℕ × ValType) → List ValType
+spread [] = []
+spread (run ∷ runs) = replicate run.0 run.1 ++ spread runs
+
+-- what is in a body of a function of this type
+abbrev pub scope_of : TypingContext → FunctionType → List (ℕ × ValType) → Scope
+scope_of context type runs = record { context = context; locals = type.params ++ spread runs; results = type.results }
+
+-- ---- lookups
+
+-- a block's type
+abbrev pub shape_type : TypingContext → Shape → Option FunctionType
+shape_type context Empty = Some (record { params = []; results = [] })
+shape_type context (One type) = Some (record { params = []; results = type ∷ [] })
+shape_type context (Index number) = slice_get context.types number
+
+abbrev pub type_at : TypingContext → Option ℕ → Option FunctionType
+type_at context None = None
+type_at context (Some number) = slice_get context.types number
+
+-- a function's type
+abbrev pub function_type : TypingContext → ℕ → Option FunctionType
+function_type context function = type_at context (slice_get context.functions function)
+
+abbrev pub is_functions : Option RefKind → Bool
+is_functions None = false
+is_functions (Some kind.Func) = true
+is_functions (Some kind.Extern) = false
+
+abbrev pub is_one_kind : Option RefKind → Option RefKind → Bool
+is_one_kind (Some kind.Func) (Some kind.Func) = true
+is_one_kind (Some kind.Extern) (Some kind.Extern) = true
+is_one_kind a b = false
+
+-- the type of a global that may be set
+abbrev pub settable : Option GlobalType → Option ValType
+settable None = None
+settable (Some global) = if global.mutable then Some global.value else None
+
+abbrev pub if_constant : Option GlobalType → Option ValType
+if_constant None = None
+if_constant (Some global) = if global.mutable then None else Some global.value
+
+-- the type of a global that a constant expression may read: an imported one that is never set
+abbrev pub constant_global : TypingContext → ℕ → Option ValType
+constant_global context index = if nat_lt index context.imported_globals then if_constant (slice_get context.globals index) else None
+
+abbrev pub is_there : {X : Type 0} → Option X → Bool
+is_there None = false
+is_there (Some found) = true
+
+abbrev pub has_number : ℕ → List ℕ → Bool
+has_number number numbers = list_any (λ other. number == other) numbers
+
+-- a function that is there, and of which a reference may be made
+abbrev pub may_refer : TypingContext → ℕ → Bool
+may_refer context function = is_there (slice_get context.functions function) && has_number function context.declared

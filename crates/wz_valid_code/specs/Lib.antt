@@ -1,0 +1,11 @@
+pub mod Operands
+pub mod Rules
+pub mod Context
+pub mod Instructions
+pub mod Typing
+pub mod Blocks
+pub mod Checking
+pub mod Effects
+pub mod Runs
+pub mod Waiting
+pub mod Laws

@@ -1,0 +1,139 @@
+//! Whether a body is typed (Core Specification 2.0, sections 3.3.9 and 3.4.1).
+
+ghost use Rattle.std.specs.Prelude.{◌≡◌, ◌∷◌, [], ◌<◌, ◌^◌, length, IfOk, OnOk, MatchBool, IsTrue, Err, reverse};
+ghost use Rattle.wz_code.specs.Trees.{leaf_in, tree_of};
+ghost use Rattle.wz_code.specs.BlockRule.{IsBody};
+ghost use Rattle.wz_valid_code.specs.Context.{HasTypes};
+ghost use Rattle.wz_valid_code.specs.Typing.{IsTyped, IsBodyTyped};
+ghost use Rattle.wz_valid_code.specs.Blocks.{arm_at, inner_in};
+ghost use Rattle.wz_valid_code.specs.Waiting.{labels_in, IsLed, Grown};
+
+use crate::block::check_block;
+use crate::context::Context;
+use crate::labels::Label;
+use crate::locals::Locals;
+use crate::pending::{Pending, add_all};
+use crate::scope::Scope;
+use crate::stack::Stack;
+use std::alloc::{AllocError, Global};
+use wz_code::{Body, Instr, laws};
+use wz_types::FuncType;
+
+/// Why a body or an expression isn't accepted.
+#[derive(Clone, Copy, Debug, PartialEq, Eq)]
+pub enum BodyFault {
+    /// No typing exists.
+    Untyped,
+    /// There is no memory for the check.
+    NoMemory,
+}
+
+pub fn code_of(body: &Body, block: Option<u32>) -> &[Instr]
+    ensures code { result.now ≡ arm_at body.now.blocks block }
+{
+    match block {
+        Some(number) => match body.block(number) {
+            Some(code) => code,
+            None => &[],
+        },
+        None => &[],
+    }
+}
+
+fn enter<'c>(labels: &mut Vec<Label<'c>>, next: &Pending<'c>) -> Result<(), AllocError>
+    ensures { OnOk result (labels.new.items ≡ labels_in labels.old.items next.now) }
+{
+    labels.truncate(next.depth);
+    labels.push(Label { types: next.label })?;
+    Ok(())
+}
+
+/// Whether the block that is taken up is typed by itself; what it names then waits.
+fn turn<'c>(
+    scope: &Scope<'c>,
+    body: &Body,
+    next: &Pending<'c>,
+    labels: &mut Vec<Label<'c>>,
+    waiting: &mut Vec<Pending<'c>>,
+    stack: &mut Stack,
+) -> Result<bool, AllocError>
+    ensures within { IfOk result (λ _. labels.new.items ≡ labels_in labels.old.items next.now) }
+    ensures led { let led = IsLed scope.now (λ i. leaf_in body.now i) body.now.blocks labels.old.items next.now in IfOk result (λ ok. MatchBool ok led (led → ⊥)) }
+    ensures grown { IfOk result (λ ok. IsTrue ok → Grown (labels_in labels.old.items next.now) waiting.old.items waiting.new.items (inner_in scope.now (reverse (labels_in labels.old.items next.now)) (arm_at body.now.blocks next.now.block))) }
+{
+    enter(labels, next)?;
+    let code = code_of(body, next.block);
+    if !check_block(
+        scope,
+        labels.as_slice(),
+        body,
+        code,
+        next.before,
+        next.results,
+        stack,
+    )? {
+        return Ok(false);
+    }
+    add_all(scope, labels.as_slice(), code, waiting)?;
+    Ok(true)
+}
+
+/// Takes up one block after another, the last added first.
+fn is_typed(alloc: Global, scope: &Scope<'_>, body: &Body) -> Result<bool, AllocError>
+    ensures { let typed = IsTyped scope.now (scope.now.results ∷ []) (tree_of body.now 0) [] scope.now.results in IfOk result (λ ok. MatchBool ok typed (typed → ⊥)) }
+{
+    laws::tree_of_block();
+    let _kept = body.block_count();
+    let mut labels: Vec<Label<'_>> = Vec::new(alloc);
+    let mut waiting: Vec<Pending<'_>> = Vec::new(alloc);
+    let mut stack = Stack::new(alloc);
+    waiting.push(Pending {
+        block: Some(0),
+        depth: 0,
+        before: &[],
+        results: scope.results,
+        label: scope.results,
+    })?;
+    while let Some(next) = waiting.pop() {
+        if !turn(scope, body, &next, &mut labels, &mut waiting, &mut stack)? {
+            return Ok(false);
+        }
+    }
+    Ok(true)
+}
+
+fn is_body_typed(
+    alloc: Global,
+    context: &Context<'_>,
+    kind: &FuncType,
+    body: &Body,
+) -> Result<bool, AllocError>
+    ensures { let typed = IsBodyTyped context.now kind.now body.now in IfOk result (λ ok. MatchBool ok typed (typed → ⊥)) }
+{
+    let _kept = body.block_count();
+    let scope = Scope {
+        context,
+        locals: Locals::new(alloc, kind.params(), body.locals())?,
+        results: kind.results(),
+    };
+    is_typed(alloc, &scope, body)
+}
+
+/// Checks the body of a function of type `kind`: it is refused as untyped exactly where no typing of it
+/// exists. The number of locals costs nothing, only the number of their runs does.
+pub fn check_body(
+    alloc: Global,
+    context: &Context<'_>,
+    kind: &FuncType,
+    body: &Body,
+) -> Result<(), BodyFault>
+    requires { HasTypes context.now }
+    ensures typed { OnOk result (IsBodyTyped context.now kind.now body.now) }
+    ensures untyped { result ≡ Err BodyFault.Untyped → IsBodyTyped context.now kind.now body.now → ⊥ }
+{
+    match is_body_typed(alloc, context, kind, body) {
+        Ok(true) => Ok(()),
+        Ok(false) => Err(BodyFault::Untyped),
+        Err(_) => Err(BodyFault::NoMemory),
+    }
+}

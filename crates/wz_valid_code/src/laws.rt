@@ -1,0 +1,18 @@
+//! Laws of typing, for the proofs of other crates. A law is the contract of a function that does nothing.
+
+ghost use Rattle.wz_valid_code.specs.Laws.{BlocksOfTree, TreeOfBlocks, TypingServes};
+
+/// A block's tree is typed where its own instructions are, each block that they name taken by its type,
+/// and each of those blocks is; and the other way.
+pub fn tree_and_blocks()
+    ensures blocks { BlocksOfTree }
+    ensures tree { TreeOfBlocks }
+{
+    wz_code::laws::tree_of_block();
+}
+
+/// Typing rests only on the types of what can be named: not on sizes, values or what was dropped, nor on
+/// how many globals are imported; and it stays where references may be made of more functions.
+pub fn typing_serves()
+    ensures { TypingServes }
+{}
