@@ -1,0 +1,11 @@
+//! Bodies.
+#![tactic(auto)]
+
+mod blocks;
+mod fault;
+mod instr;
+mod numbers;
+mod token;
+mod types;
+
+pub use fault::CodeFault;
