@@ -11,7 +11,7 @@ use Rattle.wz_decode_code.specs.declared.token.Token.TheVariants as token
 use Rattle.wz_decode_code.specs.declared.blocks.Kind.{Kind}
 use Rattle.wz_decode_code.specs.declared.blocks.Kind.TheVariants as kind
 use Rattle.wz_decode_code.specs.declared.blocks.Open.{Open}
-use Rattle.wz_decode_code.specs.Tokens.{Piece, seen}
+use Rattle.wz_decode_code.specs.Tokens.{Symbol, seen}
 use Rattle.wz_decode_code.specs.Reading.{Part, OfBlock, OfLoop, OfFirst, OfSecond, Around, Next, On, Done}
 
 abbrev pub part_of : BodyParts → Kind → Part
@@ -57,8 +57,8 @@ node_of kind.Loop shape inner = instr.Loop shape inner
 node_of kind.First shape inner = instr.If shape inner None
 node_of (kind.Second first) shape inner = instr.If shape first (Some inner)
 
--- the piece that a token is in this body
-abbrev pub seen_in : BodyParts → Token → Piece
+-- the symbol that a token is in this body
+abbrev pub seen_in : BodyParts → Token → Symbol
 seen_in body token = seen (λ i. leaf_in body i) token
 
 -- an instruction that names no block

@@ -1,11 +1,11 @@
--- Reading an expression from left to right, piece by piece: the code so far of the innermost open block, and what stands around it.
+-- Reading an expression from left to right, symbol by symbol: the code so far of the innermost open block, and what stands around it.
 use Rattle.std.specs.Prelude.{◌≡◌, ℕ, zero, suc, List, [], ◌∷◌, length, Option, Some, None}
 use Rattle.wz_bytes.specs.Reading.{◌>>=◌}
 use Rattle.wz_bytes.specs.Forms.{both_at}
 use Rattle.wz_code.specs.declared.instr.Shape.{Shape}
 use Rattle.wz_code.specs.Trees.{Code, End, Then, InBlock, InLoop, InIf, joined}
 use Rattle.wz_decode_code.specs.Entry.{Entry, locals_at}
-use Rattle.wz_decode_code.specs.Tokens.{Piece, Single, BeginsBlock, BeginsLoop, BeginsIf, Else, Ends, piece_at}
+use Rattle.wz_decode_code.specs.Tokens.{Symbol, Single, BeginsBlock, BeginsLoop, BeginsIf, Else, Ends, symbol_at}
 
 -- which part of its parent an open block is; the second arm of an if has the first one with it
 pub data Part : Type 0 where
@@ -27,7 +27,7 @@ node OfLoop shape inner = InLoop shape inner End
 node OfFirst shape inner = InIf shape inner End End
 node (OfSecond first) shape inner = InIf shape first inner End
 
--- what a piece makes of the code so far within open blocks, the innermost first
+-- what a symbol makes of the code so far within open blocks, the innermost first
 pub data Next : Type 0 where
   On : Code → List Around → Next
   Done : Code → Next
@@ -47,7 +47,7 @@ after_end here (o ∷ around) = On (joined o.before (node o.part o.shape here)) 
 abbrev pub opened : Part → Shape → Code → List Around → Next
 opened part shape here around = On End (record { part = part; shape = shape; before = here } ∷ around)
 
-abbrev pub after : Piece → Code → List Around → Next
+abbrev pub after : Symbol → Code → List Around → Next
 after (Single leaf) here around = On (joined here (Then leaf End)) around
 after (BeginsBlock shape) here around = opened OfBlock shape here around
 after (BeginsLoop shape) here around = opened OfLoop shape here around
@@ -60,12 +60,12 @@ go_on more bytes (On here around) = more here around
 go_on more bytes (Done code) = Some (code, bytes)
 go_on more bytes Refused = None
 
--- the rest of the expression, in at most so many pieces
+-- the rest of the expression, in at most so many symbols
 unfoldable pub rest_at : ℕ → List ℕ → Code → List Around → Option (Code × List ℕ)
 rest_at zero bytes here around = None
-rest_at (suc fuel) bytes here around = piece_at bytes >>= λ p. go_on (λ here around. rest_at fuel p.1 here around) p.1 (after p.0 here around)
+rest_at (suc fuel) bytes here around = symbol_at bytes >>= λ s. go_on (λ here around. rest_at fuel s.1 here around) s.1 (after s.0 here around)
 
--- the rest of the expression behind code within open blocks; there are no more pieces than bytes
+-- the rest of the expression behind code within open blocks; there are no more symbols than bytes
 unfoldable pub reads : List ℕ → Code → List Around → Option (Code × List ℕ)
 reads bytes here around = rest_at (length bytes) bytes here around
 

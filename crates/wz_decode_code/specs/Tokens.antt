@@ -1,4 +1,4 @@
--- The pieces of code that hold no others, and the one that stands in front of bytes.
+-- The symbols that code is a row of, and the one that stands in front of bytes.
 use Rattle.std.specs.Prelude.{◌≡◌, ℕ, List, [], ◌∷◌, Option, Some, None, ◌==◌, if◌then◌else◌}
 use Rattle.wz_bytes.specs.Reading.{◌>>=◌}
 use Rattle.wz_bytes.specs.Unsigned.{unsigned_at}
@@ -16,24 +16,24 @@ use Rattle.wz_decode_code.specs.Types.{IsShape}
 use Rattle.wz_decode_code.specs.InstrReading.{u32_at, instr_at}
 
 -- a leaf, the beginning of a block with its type, an else, or an end
-pub data Piece : Type 0 where
-  Single : Leaf → Piece
-  BeginsBlock : Shape → Piece
-  BeginsLoop : Shape → Piece
-  BeginsIf : Shape → Piece
-  Else : Piece
-  Ends : Piece
+pub data Symbol : Type 0 where
+  Single : Leaf → Symbol
+  BeginsBlock : Shape → Symbol
+  BeginsLoop : Shape → Symbol
+  BeginsIf : Shape → Symbol
+  Else : Symbol
+  Ends : Symbol
 
-abbrev pub IsPiece : List ℕ → Piece → Type 0
-IsPiece text (Single leaf) = IsLeaf text leaf
-IsPiece text (BeginsBlock shape) = Behind 0x02 (λ t. IsShape t shape) text
-IsPiece text (BeginsLoop shape) = Behind 0x03 (λ t. IsShape t shape) text
-IsPiece text (BeginsIf shape) = Behind 0x04 (λ t. IsShape t shape) text
-IsPiece text Else = text ≡ 0x05 ∷ []
-IsPiece text Ends = text ≡ 0x0B ∷ []
+abbrev pub IsSymbol : List ℕ → Symbol → Type 0
+IsSymbol text (Single leaf) = IsLeaf text leaf
+IsSymbol text (BeginsBlock shape) = Behind 0x02 (λ t. IsShape t shape) text
+IsSymbol text (BeginsLoop shape) = Behind 0x03 (λ t. IsShape t shape) text
+IsSymbol text (BeginsIf shape) = Behind 0x04 (λ t. IsShape t shape) text
+IsSymbol text Else = text ≡ 0x05 ∷ []
+IsSymbol text Ends = text ≡ 0x0B ∷ []
 
--- the piece that a token of the code is, where `leaf` says which leaf an instruction is
-abbrev pub seen : (Instr → Leaf) → Token → Piece
+-- the symbol that a token is, where `leaf` says which leaf an instruction is
+abbrev pub seen : (Instr → Leaf) → Token → Symbol
 seen leaf (token.Plain instr) = Single (leaf instr)
 seen leaf (token.Block shape) = BeginsBlock shape
 seen leaf (token.Loop shape) = BeginsLoop shape
@@ -56,7 +56,7 @@ HasSimple token = Unit {0}
 
 -- ---- what stands in front of bytes
 
--- all but the pieces with vectors
+-- all but the symbols with a vector in them
 unfoldable pub token_at : List ℕ → Option (Token × List ℕ)
 token_at [] = None
 token_at (b ∷ bytes) =
@@ -70,9 +70,9 @@ token_at (b ∷ bytes) =
 abbrev pub labels_at : List ℕ → Option ((List ℕ × ℕ) × List ℕ)
 labels_at bytes = both_at (λ b. vector_at (λ b. u32_at b) b) (λ b. u32_at b) bytes
 
-unfoldable pub piece_at : List ℕ → Option (Piece × List ℕ)
-piece_at [] = None
-piece_at (b ∷ bytes) =
+unfoldable pub symbol_at : List ℕ → Option (Symbol × List ℕ)
+symbol_at [] = None
+symbol_at (b ∷ bytes) =
     if b == 0x0E then made_at (λ x. Single (TableBranch x.0 x.1)) (λ b. labels_at b) bytes
     else (if b == 0x1C then made_at (λ ts. Single (TypedSelect ts)) (λ b. vector_at (λ b. type_at b) b) bytes
     else made_at (λ t. seen (λ i. Plain i) t) (λ b. token_at b) (b ∷ bytes))

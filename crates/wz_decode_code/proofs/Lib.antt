@@ -1,0 +1,10 @@
+pub mod RowLemmas
+pub mod TypeLaws
+pub mod OperandLaws
+pub mod GroupLaws
+pub mod PrefixedLaws
+pub mod InstrLaws
+pub mod SymbolLaws
+pub mod ReadsLemmas
+pub mod CodeLaws
+pub mod EntryLaws
