@@ -8,3 +8,6 @@ pub mod SymbolLaws
 pub mod ReadsLemmas
 pub mod CodeLaws
 pub mod EntryLaws
+pub mod ItemLemmas
+pub mod PoolLemmas
+pub mod StepLemmas

@@ -77,3 +77,8 @@ Fits body token = Unit {0}
 abbrev pub Follows : Next → Option ℕ → BodyParts → List Open → Type 0
 Follows next (Some here) body opens = IsReading body here opens × (next ≡ On (tree_of body here) (arounds body opens))
 Follows next None body opens = IsReading body 0 [] × (next ≡ Done (tree_of body 0))
+
+-- how many items such a step may have added
+abbrev pub items_of : Option ℕ → ℕ
+items_of (Some here) = 1
+items_of None = 0

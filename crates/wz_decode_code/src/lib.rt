@@ -5,6 +5,7 @@ mod blocks;
 mod fault;
 mod instr;
 mod numbers;
+mod pools;
 mod token;
 mod types;
 
