@@ -17,7 +17,7 @@ use Rattle.wz_decode_code.proofs.TypeLaws.{type_exact}
 use Rattle.wz_decode_code.proofs.OperandLaws.{u32_exact}
 use Rattle.wz_decode_code.proofs.CodeLaws.{expression_exact}
 
-run_exact : IsExact (λ t run. IsRun t run) (λ b. run_at b)
+pub run_exact : IsExact (λ t run. IsRun t run) (λ b. run_at b)
 run_exact = both_exact (λ t n. IsU32 t n) (λ t type. IsValType t type) (λ b. u32_at b) (λ b. type_at b) u32_exact type_exact
 
 runs_exact : IsExact (λ t runs. IsVector (λ t run. IsRun t run) t runs) (λ b. vector_at (λ b. run_at b) b)

@@ -11,3 +11,5 @@ pub mod EntryLaws
 pub mod ItemLemmas
 pub mod PoolLemmas
 pub mod StepLemmas
+pub mod LoopLemmas
+pub mod LocalsLemmas

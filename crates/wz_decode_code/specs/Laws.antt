@@ -1,10 +1,19 @@
 -- What holds of the spellings of expressions and entries, whatever reads them.
-use Rattle.std.specs.Prelude.{◌≡◌, ℕ, List, ◌++◌}
+use Rattle.std.specs.Prelude.{◌≡◌, ℕ, List, ◌++◌, Option, Some, None, Result, Ok, Err}
 use Rattle.wz_bytes.specs.Reading.{IsExact, OneFront}
+use Rattle.wz_bytes.specs.Place.{Place}
+use Rattle.wz_decode_code.specs.declared.fault.CodeFault.{CodeFault}
+use Rattle.wz_decode_code.specs.declared.fault.CodeFault.TheVariants.{Bad, NoMemory}
 use Rattle.wz_decode_code.specs.Types.{IsValType, IsRefKind, type_at, kind_at}
 use Rattle.wz_decode_code.specs.Code.{IsExpression}
 use Rattle.wz_decode_code.specs.Entry.{Entry, IsEntry}
 use Rattle.wz_decode_code.specs.Reading.{expression_at, entry_at}
+
+-- what a reading of the front gave, as a function of the bytes
+abbrev pub Gives : {X Y : Type 0} → (Y → X) → Result Y CodeFault → Place → Option (X × List ℕ) → Type 0
+Gives view (Ok y) new read = read ≡ Some (view y, new.left)
+Gives view (Err Bad) new read = read ≡ None
+Gives view (Err NoMemory) new read = Unit {0}
 
 -- the bytes as a whole spell none of this
 abbrev pub SpellsNone : {X : Type 0} → (List ℕ → X → Type 0) → List ℕ → Type 0

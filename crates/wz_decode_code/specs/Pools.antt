@@ -4,7 +4,7 @@ use Rattle.wz_bytes.specs.Forms.{items_at}
 use Rattle.wz_types.specs.declared.types.ValType.{ValType}
 use Rattle.wz_code.specs.BodyParts.{BodyParts, item_count}
 use Rattle.wz_decode_code.specs.declared.token.Token.{Token}
-use Rattle.wz_decode_code.specs.Entry.{Run}
+use Rattle.wz_decode_code.specs.Entry.{Run, locals_at}
 use Rattle.wz_decode_code.specs.Tokens.{symbol_at}
 use Rattle.wz_decode_code.specs.Opened.{seen_in, Fits}
 
@@ -63,3 +63,12 @@ pub record SymbolRead (bytes : List ℕ) (old new : BodyParts) (token : Token) (
   pub grown : Grown old new
   pub fits : Fits new token
   pub room : item_count new + length rest < item_count old + length bytes
+
+-- ---- the locals
+
+-- runs of locals were read and added to the body, and they and their number took a byte each at least
+pub record LocalsRead (bytes : List ℕ) (old new : BodyParts) (rest : List ℕ) : Type 0 where
+  pub runs : List Run
+  pub is : new ≡ with_runs old runs
+  pub read : locals_at bytes ≡ Some (runs, rest)
+  pub room : length runs + length rest < length bytes

@@ -36,7 +36,7 @@ pub fn read_type(bytes: &[u8]) -> Option<(ValType, &[u8])>
 
 /// The type of references in front, and the bytes behind it.
 #[tactic(auto, unfolding(crate::specs::Types::kind_at))]
-pub(crate) fn read_kind(bytes: &[u8]) -> Option<(RefKind, &[u8])>
+pub fn read_kind(bytes: &[u8]) -> Option<(RefKind, &[u8])>
     ensures { option_map (λ r. (r.0, r.1.now)) result ≡ kind_at bytes.now }
 {
     match bytes {
