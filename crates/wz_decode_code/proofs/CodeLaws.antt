@@ -1,17 +1,17 @@
 -- What is read is spelled so, and what is spelled so is read.
-use Rattle.std.proofs.Common.{◌≡◌, ℕ, zero, suc, ◌+◌, ◌<◌, ◌≤◌, List, [], ◌∷◌, ◌++◌, Option, Some, None, length, refl, sym, ap, subst, ◌∙◌, append_assoc, arith, ◌⊎◌, inl, inr}
+use Rattle.std.proofs.Common.{◌≡◌, ℕ, zero, suc, List, [], ◌∷◌, ◌++◌, Some, length, refl, sym, ap, subst, ◌∙◌, append_assoc, inl, inr}
 use Rattle.std.proofs.lemmas.List.{append-nil}
-use Rattle.wz_bytes.specs.Reading.{◌>>=◌, Front, IsExact}
+use Rattle.wz_bytes.specs.Reading.{Front, IsExact}
 use Rattle.wz_bytes.proofs.ReadingLemmas.{bind_some, some_is}
 use Rattle.wz_code.specs.declared.instr.Shape.{Shape}
-use Rattle.wz_code.specs.Trees.{Leaf, Code, End, Then, InBlock, InLoop, InIf, joined}
+use Rattle.wz_code.specs.Trees.{Code, End, Then, InBlock, InLoop, InIf, joined}
 use Rattle.wz_code.proofs.TreeLemmas.{joined_end, joined_assoc}
 use Rattle.wz_decode_code.specs.Types.{IsShape}
-use Rattle.wz_decode_code.specs.Code.{Behind, IsHeld, IsSecond, IsCode, IsExpression}
+use Rattle.wz_decode_code.specs.Code.{Behind, IsSecond, IsCode, IsExpression}
 use Rattle.wz_decode_code.specs.Tokens.{Symbol, Single, BeginsBlock, BeginsLoop, BeginsIf, Else, Ends, IsSymbol, symbol_at}
-use Rattle.wz_decode_code.specs.Reading.{Part, OfBlock, OfLoop, OfFirst, OfSecond, Around, node, Next, On, Done, Refused, after, go_on, rest_at, reads, expression_at}
+use Rattle.wz_decode_code.specs.Reading.{Part, OfBlock, OfLoop, OfFirst, OfSecond, Around, node, Next, On, after, go_on, rest_at, reads, expression_at}
 use Rattle.wz_decode_code.proofs.SymbolLaws.{symbol_exact}
-use Rattle.wz_decode_code.proofs.ReadsLemmas.{reads_step, reads_none}
+use Rattle.wz_decode_code.proofs.ReadsLemmas.{reads_step}
 
 -- ---- what is spelled so is read
 

@@ -1,16 +1,16 @@
 -- The locals and instructions of a function are read exactly.
-use Rattle.std.proofs.Common.{◌≡◌, ℕ, ◌<◌, ◌^◌, List, [], ◌++◌, Option, Some, None, true, length, refl, sym, ap, subst, ◌∙◌}
+use Rattle.std.proofs.Common.{ℕ, ◌^◌, List, refl, sym, subst, ◌∙◌}
 use Rattle.std.specs.Prelude.{nat_lt}
 use Rattle.std.proofs.lemmas.Bool.{ltb-true, lt-ltb}
-use Rattle.wz_bytes.specs.Reading.{◌>>=◌, Front, IsExact}
+use Rattle.wz_bytes.specs.Reading.{Front, IsExact}
 use Rattle.wz_bytes.specs.Forms.{IsVector, vector_at}
-use Rattle.wz_bytes.proofs.ReadingLemmas.{bind_some, some_is, guarded, whole_found, whole_none, whole_rest}
+use Rattle.wz_bytes.proofs.ReadingLemmas.{bind_some, some_is, guarded}
 use Rattle.wz_bytes.proofs.FormLaws.{both_exact, vector_exact, all_again}
 use Rattle.wz_decode_code.specs.Types.{IsValType, type_at}
 use Rattle.wz_decode_code.specs.Instructions.{IsU32}
 use Rattle.wz_decode_code.specs.InstrReading.{u32_at}
 use Rattle.wz_decode_code.specs.Code.{IsExpression}
-use Rattle.wz_decode_code.specs.Entry.{Run, IsRun, count_of, IsLocals, Entry, IsEntry, run_at, checked, locals_at}
+use Rattle.wz_decode_code.specs.Entry.{Run, IsRun, count_of, IsLocals, IsEntry, run_at, locals_at}
 use Rattle.wz_decode_code.specs.Reading.{expression_at, entry_at}
 use Rattle.wz_decode_code.specs.Laws.{OneEntry}
 use Rattle.wz_decode_code.proofs.TypeLaws.{type_exact}

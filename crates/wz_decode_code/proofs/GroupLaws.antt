@@ -1,7 +1,7 @@
 -- The instructions with one byte as their opcode are spelled where they are read.
-use Rattle.std.proofs.Common.{◌≡◌, ℕ, List, [], ◌∷◌, ◌++◌, Option, Some, None, cond, refl, sym, ap, subst}
+use Rattle.std.proofs.Common.{◌≡◌, ℕ, List, [], ◌∷◌, Option, None, cond, refl, sym, subst}
 use Rattle.std.specs.Prelude.{nat_eq}
-use Rattle.wz_bytes.specs.Reading.{◌>>=◌, Front}
+use Rattle.wz_bytes.specs.Reading.{Front}
 use Rattle.wz_bytes.proofs.ReadingLemmas.{Finds, bind_some, some_is, found_none}
 use Rattle.wz_code.specs.declared.instr.Instr.{Instr}
 use Rattle.wz_code.specs.declared.instr.Instr.TheVariants as instr
@@ -9,7 +9,6 @@ use Rattle.wz_code.specs.Accesses.{access_opcode_of, access_at}
 use Rattle.wz_code.specs.Numeric.{opcode_of, op_at}
 use Rattle.wz_code.proofs.AccessLemmas.{names_access}
 use Rattle.wz_code.proofs.NumericLemmas.{names_operation}
-use Rattle.wz_decode_code.specs.Types.{IsRefKind, kind_at}
 use Rattle.wz_decode_code.specs.Instructions.{IsU32, Two, IsMemory, IsI32, IsI64, IsF32, IsF64, IsPlain, IsOpcode}
 use Rattle.wz_decode_code.specs.InstrReading.{u32_at, two_at, memory_at, i32_at, i64_at, f32_at, f64_at, with_number, with_two, control_at, variable_at, constant_at, access_instr_at, numeric_at}
 use Rattle.wz_decode_code.proofs.RowLemmas.{row, bare_row, made_finds, tag_finds}

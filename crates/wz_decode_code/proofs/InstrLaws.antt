@@ -1,16 +1,16 @@
 -- An instruction that holds no others and no vector is read exactly.
-use Rattle.std.proofs.Common.{◌≡◌, ℕ, ◌<◌, List, [], ◌∷◌, ◌++◌, Option, Some, None, Bool, true, false, cond, refl, sym, ap, subst, ◌∙◌, append_assoc, arith, ◌⊎◌, inl, inr}
-use Rattle.std.specs.Prelude.{nat_eq, nat_lt}
-use Rattle.wz_bytes.specs.Reading.{◌>>=◌, Front, IsExact}
+use Rattle.std.proofs.Common.{◌≡◌, ℕ, List, [], ◌∷◌, ◌++◌, Option, Some, None, true, false, refl, ap, ◌∙◌, append_assoc}
+use Rattle.std.specs.Prelude.{nat_lt}
+use Rattle.wz_bytes.specs.Reading.{Front, IsExact}
 use Rattle.wz_bytes.specs.Forms.{Both, both_at, made_at}
-use Rattle.wz_bytes.proofs.ReadingLemmas.{Finds, found_or}
+use Rattle.wz_bytes.proofs.ReadingLemmas.{found_or}
 use Rattle.wz_code.specs.declared.instr.Instr.{Instr}
 use Rattle.wz_code.specs.declared.instr.Instr.TheVariants as instr
 use Rattle.wz_code.specs.declared.accesses.MemOp.{MemOp}
 use Rattle.wz_code.specs.declared.accesses.MemOp.TheVariants.{I32Load}
 use Rattle.wz_code.specs.declared.numeric.NumOp.{NumOp}
 use Rattle.wz_code.specs.declared.numeric.NumOp.TheVariants.{I32Eqz, I32TruncSatF32S, I32TruncSatF32U, I32TruncSatF64S, I32TruncSatF64U, I64TruncSatF32S, I64TruncSatF32U, I64TruncSatF64S, I64TruncSatF64U}
-use Rattle.wz_code.specs.Accesses.{access_opcode_of, access_at}
+use Rattle.wz_code.specs.Accesses.{access_opcode_of}
 use Rattle.wz_code.specs.Numeric.{opcode_of, op_at}
 use Rattle.wz_code.proofs.AccessLemmas.{access_named}
 use Rattle.wz_code.proofs.NumericLemmas.{operation_named}

@@ -1,15 +1,14 @@
 -- Items of a vector that are added one after the other.
-use Rattle.std.proofs.Common.{◌≡◌, ℕ, zero, suc, ◌+◌, ◌-◌, ◌<◌, ◌≤◌, ◌^◌, List, [], ◌∷◌, ◌++◌, Option, Some, None, length, take, drop, refl, sym, ap, ◌∙◌, append_assoc, arith}
+use Rattle.std.proofs.Common.{◌≡◌, ℕ, suc, ◌+◌, ◌-◌, ◌<◌, ◌≤◌, ◌^◌, List, [], ◌∷◌, ◌++◌, Option, Some, None, length, take, drop, refl, sym, ap, ◌∙◌, append_assoc, arith}
 use Rattle.std.proofs.lemmas.List.{append-nil, length-append, drop_at, take_at}
-use Rattle.wz_bytes.specs.Reading.{◌>>=◌, Front, IsExact}
-use Rattle.wz_bytes.specs.Unsigned.{IsUnsigned}
+use Rattle.wz_bytes.specs.Reading.{◌>>=◌, IsExact}
 use Rattle.wz_bytes.specs.Forms.{items_at}
 use Rattle.wz_types.specs.declared.types.ValType.{ValType}
 use Rattle.wz_code.specs.BodyParts.{BodyParts, with_label, with_type, with_locals}
 use Rattle.wz_decode_code.specs.Types.{IsValType, type_at}
 use Rattle.wz_decode_code.specs.Instructions.{IsU32}
 use Rattle.wz_decode_code.specs.InstrReading.{u32_at}
-use Rattle.wz_decode_code.specs.Entry.{Run, IsRun, run_at}
+use Rattle.wz_decode_code.specs.Entry.{Run}
 use Rattle.wz_decode_code.specs.Pools.{with_labels, with_types, with_runs, behind_items, Adding, Added, Behind, Stand}
 use Rattle.wz_decode_code.proofs.TypeLaws.{type_exact}
 use Rattle.wz_decode_code.proofs.OperandLaws.{u32_exact}

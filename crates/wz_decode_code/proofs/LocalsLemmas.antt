@@ -1,12 +1,10 @@
 -- The locals of a function.
-use Rattle.std.proofs.Common.{◌≡◌, ℕ, ◌+◌, ◌-◌, ◌*◌, ◌<◌, ◌≤◌, ◌^◌, List, [], ◌∷◌, ◌++◌, Option, Some, None, true, false, length, take, drop, refl, sym, ap, subst, ◌∙◌, arith}
+use Rattle.std.proofs.Common.{◌≡◌, ℕ, ◌+◌, ◌<◌, ◌≤◌, ◌^◌, List, [], ◌∷◌, ◌++◌, Some, None, length, drop, refl, sym, ap, subst, ◌∙◌, arith}
 use Rattle.std.proofs.lemmas.Bool.{lt-ltb, le-ltb}
-use Rattle.std.proofs.lemmas.List.{drop_at, length-append}
-use Rattle.wz_bytes.specs.Reading.{◌>>=◌}
+use Rattle.std.proofs.lemmas.List.{drop_at}
 use Rattle.wz_bytes.specs.Forms.{items_at, vector_at}
 use Rattle.wz_bytes.proofs.ReadingLemmas.{whole_found, whole_none, whole_rest}
 use Rattle.wz_bytes.proofs.UnsignedLaws.{unsigned_below}
-use Rattle.wz_types.specs.declared.types.ValType.{ValType}
 use Rattle.wz_code.specs.BodyParts.{BodyParts, no_parts, with_locals}
 use Rattle.wz_code.specs.Trees.{Code, End, tree_of}
 use Rattle.wz_code.specs.BlockRule.{IsBuilding}
@@ -16,7 +14,7 @@ use Rattle.wz_decode_code.specs.InstrReading.{u32_at}
 use Rattle.wz_decode_code.specs.Entry.{Run, IsRun, count_of, IsEntry, entry_of, run_at, locals_at}
 use Rattle.wz_decode_code.specs.Reading.{expression_at, entry_at}
 use Rattle.wz_decode_code.specs.Laws.{SpellsNone}
-use Rattle.wz_decode_code.specs.Pools.{with_runs, Adding, Added, LocalsRead}
+use Rattle.wz_decode_code.specs.Pools.{with_runs, Added, LocalsRead}
 use Rattle.wz_decode_code.proofs.ItemLemmas.{shorter, u32_shorter}
 use Rattle.wz_decode_code.proofs.EntryLaws.{run_exact, entry_exact}
 use Rattle.wz_decode_code.proofs.LoopLemmas.{start_tree}

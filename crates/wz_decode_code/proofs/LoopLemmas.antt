@@ -1,17 +1,17 @@
 -- The loop over symbols.
-use Rattle.std.proofs.Common.{◌≡◌, ℕ, ◌+◌, ◌-◌, ◌<◌, ◌≤◌, ◌^◌, List, [], ◌∷◌, ◌++◌, Option, Some, None, length, take, drop, refl, sym, ap, ◌∙◌, arith}
+use Rattle.std.proofs.Common.{◌≡◌, ℕ, ◌+◌, ◌-◌, ◌≤◌, List, [], ◌∷◌, Option, Some, None, length, drop, refl, sym, ap, ◌∙◌, arith}
 use Rattle.std.proofs.lemmas.Bool.{le-ltb}
 use Rattle.std.proofs.lemmas.List.{drop_at, length-append}
 use Rattle.wz_bytes.specs.Reading.{NoFront}
 use Rattle.wz_bytes.specs.Forms.{piece_at}
 use Rattle.wz_bytes.specs.Place.{Place, Moves, Passes}
 use Rattle.wz_bytes.proofs.ReadingLemmas.{some_is, none_stands, rest_no_longer}
-use Rattle.wz_code.specs.BodyParts.{BodyParts, no_parts, item_count}
+use Rattle.wz_code.specs.BodyParts.{BodyParts, no_parts}
 use Rattle.wz_code.specs.Trees.{Code, End, tree_by, tree_in, tree_of}
 use Rattle.wz_code.specs.BlockRule.{IsBuilding}
 use Rattle.wz_decode_code.specs.declared.token.Token.{Token}
 use Rattle.wz_decode_code.specs.declared.blocks.Open.{Open}
-use Rattle.wz_decode_code.specs.Tokens.{Symbol, symbol_at}
+use Rattle.wz_decode_code.specs.Tokens.{symbol_at}
 use Rattle.wz_decode_code.specs.Reading.{Around, Next, On, Done, Refused, after, go_on, reads, expression_at}
 use Rattle.wz_decode_code.specs.Opened.{arounds, held, IsReading, seen_in}
 use Rattle.wz_decode_code.specs.Pools.{SymbolRead}

@@ -1,11 +1,10 @@
 -- What stands behind opcodes is read exactly.
-use Rattle.std.proofs.Common.{◌≡◌, ℕ, ℤ, List, [], ◌∷◌, ◌++◌, Option, Some, None, refl, ap, subst}
+use Rattle.std.proofs.Common.{◌≡◌, ℕ, ℤ, List, [], ◌∷◌, Some, refl}
 use Rattle.std.specs.Int.{w32, w64, cast_unsigned, from_le_bytes}
 use Rattle.wz_bytes.specs.Reading.{Front, IsExact}
-use Rattle.wz_bytes.specs.Unsigned.{IsUnsigned, unsigned_at}
 use Rattle.wz_bytes.specs.Signed.{IsSigned, signed_at}
 use Rattle.wz_bytes.specs.Forms.{IsPiece, piece_at, Both, both_at}
-use Rattle.wz_bytes.proofs.ReadingLemmas.{Finds, found_none}
+use Rattle.wz_bytes.proofs.ReadingLemmas.{found_none}
 use Rattle.wz_bytes.proofs.UnsignedLaws.{unsigned_exact}
 use Rattle.wz_bytes.proofs.SignedLaws.{signed_exact}
 use Rattle.wz_bytes.proofs.FormLaws.{piece_exact, both_exact, made_exact}

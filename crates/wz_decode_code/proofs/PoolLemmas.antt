@@ -1,13 +1,12 @@
 -- Symbols that add to the pools of a body.
-use Rattle.std.proofs.Common.{◌≡◌, ℕ, ◌+◌, ◌<◌, ◌≤◌, List, [], ◌∷◌, ◌++◌, Option, Some, None, length, take, drop, refl, sym, ap, subst, ◌∙◌, arith}
+use Rattle.std.proofs.Common.{◌≡◌, ℕ, ◌+◌, List, [], ◌∷◌, ◌++◌, Option, Some, None, length, take, drop, refl, sym, ap, subst, ◌∙◌, arith}
 use Rattle.std.proofs.lemmas.List.{append-nil, length-append, drop_at}
-use Rattle.wz_bytes.specs.Reading.{◌>>=◌}
 use Rattle.wz_bytes.specs.Forms.{items_at, vector_at}
 use Rattle.wz_types.specs.declared.types.ValType.{ValType}
 use Rattle.wz_code.specs.declared.instr.Instr.{Instr}
 use Rattle.wz_code.specs.declared.instr.Instr.TheVariants.{Block, Loop, If, BrTable, SelectTyped}
 use Rattle.wz_code.specs.BodyParts.{BodyParts, block_at, item_count}
-use Rattle.wz_code.specs.Trees.{Leaf, Plain, TableBranch, TypedSelect, tree_of, leaf_of, leaf_in}
+use Rattle.wz_code.specs.Trees.{Leaf, Plain, TableBranch, TypedSelect, leaf_of, leaf_in}
 use Rattle.wz_code.specs.BlockRule.{InPools, IsBuilding}
 use Rattle.wz_code.specs.Laws.{StaysBuilding}
 use Rattle.wz_code.proofs.TreeLemmas.{every-of, tree-pools}

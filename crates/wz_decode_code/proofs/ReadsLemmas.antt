@@ -1,5 +1,5 @@
 -- Reading symbol by symbol, with no fuel to speak of.
-use Rattle.std.proofs.Common.{◌≡◌, ℕ, zero, suc, ◌+◌, ◌<◌, ◌≤◌, List, [], ◌∷◌, ◌++◌, Option, Some, None, length, refl, sym, ap, ◌∙◌, arith}
+use Rattle.std.proofs.Common.{◌≡◌, ℕ, zero, suc, ◌≤◌, List, [], ◌∷◌, Option, Some, None, length, refl, ◌∙◌, arith}
 use Rattle.wz_bytes.specs.Reading.{◌>>=◌}
 use Rattle.wz_code.specs.Trees.{Code}
 use Rattle.wz_decode_code.specs.Tokens.{Symbol, symbol_at}

@@ -1,8 +1,8 @@
 -- Rows of a table of opcodes, for any form.
-use Rattle.std.proofs.Common.{◌≡◌, ℕ, List, [], ◌∷◌, ◌++◌, Option, Some, None, Bool, true, cond, refl, ap, subst}
+use Rattle.std.proofs.Common.{◌≡◌, ℕ, List, [], ◌∷◌, ◌++◌, Option, Some, cond, refl, ap, subst}
 use Rattle.std.specs.Prelude.{nat_eq}
 use Rattle.std.proofs.lemmas.Bool.{eqb-true}
-use Rattle.wz_bytes.specs.Reading.{◌>>=◌, Front, IsExact}
+use Rattle.wz_bytes.specs.Reading.{Front, IsExact}
 use Rattle.wz_bytes.specs.Forms.{made_at}
 use Rattle.wz_bytes.proofs.ReadingLemmas.{Finds, bind_some, some_is, found_or}
 

@@ -1,15 +1,14 @@
 -- What each token does to an expression that is being read.
-use Rattle.std.proofs.Common.{◌≡◌, ◌≢◌, ℕ, zero, suc, ◌+◌, ◌-◌, ◌<◌, ◌≤◌, ◌^◌, List, [], ◌∷◌, ◌++◌, Option, Some, None, length, refl, sym, ap, subst, ◌∙◌, arith}
+use Rattle.std.proofs.Common.{◌≡◌, ◌≢◌, ℕ, ◌+◌, ◌<◌, ◌≤◌, List, [], ◌∷◌, ◌++◌, length, refl, sym, ap, subst, ◌∙◌, arith}
 use Rattle.std.specs.Prelude.{reverse}
 use Rattle.std.proofs.lemmas.List.{reverse-append}
 use Rattle.wz_code.specs.declared.instr.Shape.{Shape}
 use Rattle.wz_code.specs.declared.instr.Instr.{Instr}
-use Rattle.wz_code.specs.declared.instr.Instr.TheVariants.{Block, Loop, If, BrTable, SelectTyped}
+use Rattle.wz_code.specs.declared.instr.Instr.TheVariants.{Block, Loop, If}
 use Rattle.wz_code.specs.BodyParts.{BodyParts, with_instr, with_block, item_count}
 use Rattle.wz_code.specs.Trees.{Code, End, Then, joined, tree_of, leaf_in, headed_in}
-use Rattle.wz_code.specs.BlockRule.{Every, named, times, InPools, IsBuilding}
+use Rattle.wz_code.specs.BlockRule.{Every, named, times, InPools}
 use Rattle.wz_code.specs.Laws.{InstrTaken, BlockTaken}
-use Rattle.wz_code.proofs.TreeLemmas.{every-of}
 use Rattle.wz_code.proofs.RuleLemmas.{times-append, times-here, not-times}
 use Rattle.wz_code.proofs.LawLemmas.{held_is_there, taking_instr, taking_block, counts_instr, counts_block}
 use Rattle.wz_decode_code.specs.declared.token.Token.{Token}
@@ -17,7 +16,7 @@ use Rattle.wz_decode_code.specs.declared.token.Token.TheVariants as token
 use Rattle.wz_decode_code.specs.declared.blocks.Kind.{Kind}
 use Rattle.wz_decode_code.specs.declared.blocks.Kind.TheVariants as kind
 use Rattle.wz_decode_code.specs.declared.blocks.Open.{Open}
-use Rattle.wz_decode_code.specs.Reading.{Part, OfBlock, OfLoop, OfFirst, OfSecond, Around, node, Next, On, after}
+use Rattle.wz_decode_code.specs.Reading.{Part, OfSecond, Around, node, On, after}
 use Rattle.wz_decode_code.specs.Opened.{part_of, around_of, arounds, pending, others, held, Rises, IsReading, node_of, seen_in, NamesNone, Fits}
 
 -- ---- what is around stays

@@ -1,17 +1,16 @@
 -- A symbol is read exactly.
-use Rattle.std.proofs.Common.{◌≡◌, ℕ, ◌<◌, List, [], ◌∷◌, ◌++◌, Option, Some, None, Bool, true, false, cond, length, refl, sym, ap, subst, ◌∙◌, arith}
+use Rattle.std.proofs.Common.{◌≡◌, ℕ, ◌<◌, List, [], ◌∷◌, ◌++◌, Option, Some, None, Bool, true, false, length, refl, sym, ap, ◌∙◌, arith}
 use Rattle.std.specs.Prelude.{nat_eq}
 use Rattle.std.proofs.lemmas.Bool.{eqb-true}
 use Rattle.std.proofs.lemmas.List.{length-append}
-use Rattle.wz_bytes.specs.Reading.{◌>>=◌, Front, IsExact}
+use Rattle.wz_bytes.specs.Reading.{Front, IsExact}
 use Rattle.wz_bytes.specs.Forms.{Both, IsVector, vector_at, made_at}
-use Rattle.wz_bytes.proofs.ReadingLemmas.{Finds, none_given}
+use Rattle.wz_bytes.proofs.ReadingLemmas.{none_given}
 use Rattle.wz_bytes.proofs.FormLaws.{both_exact, vector_exact}
 use Rattle.wz_types.specs.declared.types.ValType.{ValType}
-use Rattle.wz_code.specs.declared.instr.Shape.{Shape}
 use Rattle.wz_code.specs.declared.instr.Instr.{Instr}
 use Rattle.wz_code.specs.declared.instr.Instr.TheVariants as instr
-use Rattle.wz_code.specs.Trees.{Leaf, Plain, TableBranch, TypedSelect}
+use Rattle.wz_code.specs.Trees.{Plain, TableBranch, TypedSelect}
 use Rattle.wz_decode_code.specs.declared.token.Token.{Token}
 use Rattle.wz_decode_code.specs.declared.token.Token.TheVariants as token
 use Rattle.wz_decode_code.specs.Types.{IsValType, IsShape, type_at, shape_at}

@@ -1,11 +1,11 @@
 -- Types are read exactly.
-use Rattle.std.proofs.Common.{◌≡◌, ℕ, ℤ, pos, negsuc, ◌<◌, ◌≤◌, List, [], ◌∷◌, ◌++◌, Option, Some, None, Bool, true, false, cond, refl, sym, ap, subst, ◌∙◌, arith, ◌⊎◌, inl, inr}
+use Rattle.std.proofs.Common.{◌≡◌, ℕ, ℤ, pos, negsuc, ◌<◌, ◌≤◌, List, [], ◌∷◌, ◌++◌, Option, Some, None, Bool, true, false, cond, refl, ap, subst, ◌∙◌, arith, ◌⊎◌, inl, inr}
 use Rattle.std.specs.Prelude.{nat_eq}
 use Rattle.std.proofs.lemmas.Bool.{eqb-true}
 use Rattle.std.proofs.lemmas.Int.{ints}
-use Rattle.wz_bytes.specs.Reading.{◌>>=◌, Front, IsExact}
+use Rattle.wz_bytes.specs.Reading.{Front, IsExact}
 use Rattle.wz_bytes.specs.Signed.{IsSigned, signed_at}
-use Rattle.wz_bytes.proofs.ReadingLemmas.{Finds, bind_some, some_is, chosen, found_or, found_none}
+use Rattle.wz_bytes.proofs.ReadingLemmas.{Finds, bind_some, some_is, chosen, found_none}
 use Rattle.wz_bytes.proofs.SignedLaws.{signed_exact}
 use Rattle.wz_types.specs.declared.types.ValType.{ValType}
 use Rattle.wz_types.specs.declared.types.ValType.TheVariants.{I32, I64, F32, F64, FuncRef, ExternRef}
@@ -13,7 +13,7 @@ use Rattle.wz_types.specs.declared.types.RefKind.{RefKind}
 use Rattle.wz_types.specs.declared.types.RefKind.TheVariants as kind
 use Rattle.wz_code.specs.declared.instr.Shape.{Shape}
 use Rattle.wz_code.specs.declared.instr.Shape.TheVariants.{Empty, One, Index}
-use Rattle.wz_decode_code.specs.Types.{type_byte, IsValType, kind_byte, IsRefKind, IsShape, type_of_byte, type_at, kind_at, index_of, index_at, one_or_index, shape_at}
+use Rattle.wz_decode_code.specs.Types.{type_byte, IsValType, IsRefKind, IsShape, type_of_byte, type_at, kind_at, index_of, index_at, one_or_index, shape_at}
 use Rattle.wz_decode_code.proofs.RowLemmas.{bare_row, bare_finds, tag_finds}
 
 -- ---- types of values

@@ -1,5 +1,5 @@
 -- The instruction that stands in front of bytes, as a function of them, by groups of opcodes.
-use Rattle.std.specs.Prelude.{◌≡◌, ℕ, nat_lt, List, [], ◌∷◌, Option, Some, None, ◌==◌, if◌then◌else◌}
+use Rattle.std.specs.Prelude.{ℕ, nat_lt, List, [], ◌∷◌, Option, Some, None, ◌==◌, if◌then◌else◌}
 use Rattle.std.specs.Int.{w32, w64, cast_unsigned, from_le_bytes}
 use Rattle.wz_bytes.specs.Reading.{◌>>=◌}
 use Rattle.wz_bytes.specs.Unsigned.{unsigned_at}

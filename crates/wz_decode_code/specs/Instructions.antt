@@ -4,7 +4,6 @@ use Rattle.std.specs.Int.{w32, w64, cast_unsigned, from_le_bytes}
 use Rattle.wz_bytes.specs.Unsigned.{IsUnsigned}
 use Rattle.wz_bytes.specs.Signed.{IsSigned}
 use Rattle.wz_bytes.specs.Forms.{IsPiece, Both, Tagged, Made, IsVector}
-use Rattle.wz_types.specs.declared.types.ValType.{ValType}
 use Rattle.wz_code.specs.declared.instr.Instr.{Instr}
 use Rattle.wz_code.specs.declared.instr.Instr.TheVariants as instr
 use Rattle.wz_code.specs.Accesses.{access_opcode_of}

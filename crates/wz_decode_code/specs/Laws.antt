@@ -1,5 +1,5 @@
 -- What holds of the spellings of expressions and entries, whatever reads them.
-use Rattle.std.specs.Prelude.{◌≡◌, ℕ, List, ◌++◌, Option, Some, None, Result, Ok, Err}
+use Rattle.std.specs.Prelude.{◌≡◌, ℕ, List, Option, Some, None, Result, Ok, Err}
 use Rattle.wz_bytes.specs.Reading.{IsExact, OneFront}
 use Rattle.wz_bytes.specs.Place.{Place}
 use Rattle.wz_decode_code.specs.declared.fault.CodeFault.{CodeFault}

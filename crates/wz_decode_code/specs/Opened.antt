@@ -12,7 +12,7 @@ use Rattle.wz_decode_code.specs.declared.blocks.Kind.{Kind}
 use Rattle.wz_decode_code.specs.declared.blocks.Kind.TheVariants as kind
 use Rattle.wz_decode_code.specs.declared.blocks.Open.{Open}
 use Rattle.wz_decode_code.specs.Tokens.{Symbol, seen}
-use Rattle.wz_decode_code.specs.Reading.{Part, OfBlock, OfLoop, OfFirst, OfSecond, Around, Next, On, Done}
+use Rattle.wz_decode_code.specs.Reading.{Part, OfBlock, OfLoop, OfFirst, OfSecond, Around, Next, On, Done, after}
 
 abbrev pub part_of : BodyParts → Kind → Part
 part_of body kind.Block = OfBlock
@@ -72,6 +72,10 @@ NamesNone instr = Unit {0}
 abbrev pub Fits : BodyParts → Token → Type 0
 Fits body (token.Plain instr) = NamesNone instr × InPools body.labels body.types instr
 Fits body token = Unit {0}
+
+-- what the token makes of what was read, where `here` is the innermost open block
+abbrev pub next_of : BodyParts → ℕ → List Open → Token → Next
+next_of body here opens token = after (seen_in body token) (tree_of body here) (arounds body opens)
 
 -- what is read now is what the token makes of what was read before
 abbrev pub Follows : Next → Option ℕ → BodyParts → List Open → Type 0

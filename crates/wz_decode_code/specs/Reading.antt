@@ -1,5 +1,5 @@
 -- Reading an expression from left to right, symbol by symbol: the code so far of the innermost open block, and what stands around it.
-use Rattle.std.specs.Prelude.{◌≡◌, ℕ, zero, suc, List, [], ◌∷◌, length, Option, Some, None}
+use Rattle.std.specs.Prelude.{ℕ, zero, suc, List, [], ◌∷◌, length, Option, Some, None}
 use Rattle.wz_bytes.specs.Reading.{◌>>=◌}
 use Rattle.wz_bytes.specs.Forms.{both_at}
 use Rattle.wz_code.specs.declared.instr.Shape.{Shape}

@@ -1,7 +1,5 @@
 -- The symbols that code is a row of, and the one that stands in front of bytes.
 use Rattle.std.specs.Prelude.{◌≡◌, ℕ, List, [], ◌∷◌, Option, Some, None, ◌==◌, if◌then◌else◌}
-use Rattle.wz_bytes.specs.Reading.{◌>>=◌}
-use Rattle.wz_bytes.specs.Unsigned.{unsigned_at}
 use Rattle.wz_bytes.specs.Forms.{both_at, made_at, vector_at}
 use Rattle.wz_code.specs.declared.instr.Shape.{Shape}
 use Rattle.wz_code.specs.declared.instr.Instr.{Instr}

@@ -2,10 +2,9 @@
 
 ghost use Rattle.std.specs.Prelude.{◌≡◌, ◌<◌, ◌≤◌, ◌+◌, ◌-◌, ◌^◌, [], ◌∷◌, ◌++◌, length, reverse, IfOk, OnOk, IsErrOf};
 ghost use Rattle.wz_code.specs.BodyParts.{with_block, item_count};
-ghost use Rattle.wz_code.specs.Trees.{tree_of};
 ghost use Rattle.wz_decode_code.specs.declared.fault.CodeFault.TheVariants.{Bad};
-ghost use Rattle.wz_decode_code.specs.Reading.{Refused, after};
-ghost use Rattle.wz_decode_code.specs.Opened.{arounds, node_of, seen_in, Fits, IsReading, Follows, items_of};
+ghost use Rattle.wz_decode_code.specs.Reading.{Refused};
+ghost use Rattle.wz_decode_code.specs.Opened.{node_of, next_of, Fits, IsReading, Follows, items_of};
 
 use crate::fault::CodeFault;
 use crate::token::Token;
@@ -74,8 +73,10 @@ pub(crate) fn step(
     requires reading { IsReading builder.old here (reverse opens.old.items) }
     requires fits { Fits builder.old token }
     requires room { item_count builder.old < 2 ^ 32 - 1 }
-    ensures ok { IfOk result (λ to. Follows (after (seen_in builder.old token) (tree_of builder.old here) (arounds builder.old (reverse opens.old.items))) to builder.new (reverse opens.new.items)) }
-    ensures bad { IsErrOf result Bad → after (seen_in builder.old token) (tree_of builder.old here) (arounds builder.old (reverse opens.old.items)) ≡ Refused }
+    ensures ok { let next = next_of builder.old here (reverse opens.old.items) token in
+        IfOk result (λ to. Follows next to builder.new (reverse opens.new.items)) }
+    ensures bad { let next = next_of builder.old here (reverse opens.old.items) token in
+        IsErrOf result Bad → next ≡ Refused }
     ensures room { IfOk result (λ to. item_count builder.new ≤ item_count builder.old + items_of to) }
     ensures locals { OnOk result (builder.new.locals ≡ builder.old.locals) }
 {

@@ -55,8 +55,10 @@ fn add_runs<'a>(
     bytes: &'a [u8],
 ) -> Result<(u64, &'a [u8]), CodeFault>
     requires { length builder.old.locals + length bytes.now < 2 ^ 32 }
-    ensures ok { IfOk result (λ r. Added (λ b. run_at b) (λ body runs. with_runs body runs) count bytes.now builder.old builder.new r.1.now) }
-    ensures total { IfOk result (λ r. r.0 ≡ count_of (drop (length builder.old.locals) builder.new.locals)) }
+    ensures ok { let added = Added (λ b. run_at b) (λ body runs. with_runs body runs) count bytes.now in
+        IfOk result (λ r. added builder.old builder.new r.1.now) }
+    ensures total { let runs = drop (length builder.old.locals) builder.new.locals in
+        IfOk result (λ r. r.0 ≡ count_of runs) }
     ensures bad { IsErrOf result Bad → items_at (λ b. run_at b) count bytes.now ≡ None }
 {
     let mut rest = bytes;

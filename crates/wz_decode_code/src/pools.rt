@@ -83,7 +83,8 @@ fn add_labels<'a>(
     bytes: &'a [u8],
 ) -> Result<(u32, &'a [u8]), CodeFault>
     requires room { length builder.old.labels + length bytes.now < 2 ^ 32 }
-    ensures ok { IfOk result (λ r. Added (λ b. u32_at b) (λ body labels. with_labels body labels) count bytes.now builder.old builder.new r.1.now) }
+    ensures ok { let added = Added (λ b. u32_at b) (λ body labels. with_labels body labels) count bytes.now in
+        IfOk result (λ r. added builder.old builder.new r.1.now) }
     ensures place { IfOk result (λ r. Stand r.0 count builder.old.labels builder.new.labels) }
     ensures bad { IsErrOf result Bad → items_at (λ b. u32_at b) count bytes.now ≡ None }
 {
@@ -106,7 +107,8 @@ fn add_types<'a>(
     bytes: &'a [u8],
 ) -> Result<(u32, &'a [u8]), CodeFault>
     requires room { length builder.old.types + length bytes.now < 2 ^ 32 }
-    ensures ok { IfOk result (λ r. Added (λ b. type_at b) (λ body types. with_types body types) count bytes.now builder.old builder.new r.1.now) }
+    ensures ok { let added = Added (λ b. type_at b) (λ body types. with_types body types) count bytes.now in
+        IfOk result (λ r. added builder.old builder.new r.1.now) }
     ensures place { IfOk result (λ r. Stand r.0 count builder.old.types builder.new.types) }
     ensures bad { IsErrOf result Bad → items_at (λ b. type_at b) count bytes.now ≡ None }
 {

@@ -1,8 +1,9 @@
 //! Types of values, references and blocks.
 
-ghost use Rattle.std.specs.Prelude.{◌≡◌};
+ghost use Rattle.std.specs.Prelude.{◌≡◌, IfSome, IsNone};
 ghost use Rattle.std.specs.Option.{option_map};
-ghost use Rattle.wz_decode_code.specs.Types.{type_of_byte, type_at, kind_at, shape_at, index_at};
+ghost use Rattle.wz_bytes.specs.Reading.{Front, NoFront};
+ghost use Rattle.wz_decode_code.specs.Types.{IsValType, IsRefKind, type_of_byte, type_at, kind_at, shape_at, index_at};
 
 use wz_bytes::read_signed;
 use wz_code::Shape;
@@ -26,7 +27,9 @@ fn type_of(byte: u8) -> Option<ValType>
 /// The type of values in front, and the bytes behind it (Core Specification 2.0, section 5.3.4).
 #[tactic(auto, unfolding(crate::specs::Types::type_at))]
 pub fn read_type(bytes: &[u8]) -> Option<(ValType, &[u8])>
-    ensures { option_map (λ r. (r.0, r.1.now)) result ≡ type_at bytes.now }
+    ensures found { IfSome result (λ r. Front IsValType bytes.now r.0 r.1.now) }
+    ensures none { IsNone result → NoFront IsValType bytes.now }
+    ensures exact { option_map (λ r. (r.0, r.1.now)) result ≡ type_at bytes.now }
 {
     let [byte, rest @ ..] = bytes else {
         return None;
@@ -37,7 +40,9 @@ pub fn read_type(bytes: &[u8]) -> Option<(ValType, &[u8])>
 /// The type of references in front, and the bytes behind it.
 #[tactic(auto, unfolding(crate::specs::Types::kind_at))]
 pub fn read_kind(bytes: &[u8]) -> Option<(RefKind, &[u8])>
-    ensures { option_map (λ r. (r.0, r.1.now)) result ≡ kind_at bytes.now }
+    ensures found { IfSome result (λ r. Front IsRefKind bytes.now r.0 r.1.now) }
+    ensures none { IsNone result → NoFront IsRefKind bytes.now }
+    ensures exact { option_map (λ r. (r.0, r.1.now)) result ≡ kind_at bytes.now }
 {
     match bytes {
         [0x70, rest @ ..] => Some((RefKind::Func, rest)),

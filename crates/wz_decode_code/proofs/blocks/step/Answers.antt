@@ -1,4 +1,4 @@
-use Rattle.std.proofs.Common.{refl, arith, ap}
+use Rattle.std.proofs.Common.{refl}
 use Rattle.wz_code.proofs.LawLemmas.{short_by_count}
 use Rattle.wz_decode_code.proofs.StepLemmas.{here_within, end-within, plain-follows, begin-follows, second-follows, end-follows, room-instr, room-block}
 use Rattle.wz_decode_code.proofs.blocks.step.Goals as goal

@@ -1,4 +1,4 @@
-use Rattle.std.proofs.Common.{◌+◌, ◌*◌, ◌≤◌, ◌<◌, ◌^◌, ◌-◌, length, arith, sym, ap}
+use Rattle.std.proofs.Common.{length, arith, sym, ap}
 use Rattle.wz_decode_code.proofs.ItemLemmas.{adds, adds_none, all_added, run_grows, some_room}
 use Rattle.wz_decode_code.proofs.LocalsLemmas.{run_shorter, run_below, counts_more}
 use Rattle.wz_decode_code.proofs.entry.add_runs.Goals as goal

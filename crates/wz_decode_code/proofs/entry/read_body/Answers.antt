@@ -1,9 +1,7 @@
-use Rattle.std.proofs.Common.{◌≡◌, sym, ◌∙◌, ap}
+use Rattle.std.proofs.Common.{sym}
 use Rattle.std.proofs.lemmas.Bool.{eqb-true}
 use Rattle.std.proofs.lemmas.List.{nil_from_length}
 use Rattle.std.proofs.lemmas.Result.{err_from_is_err_and}
-use Rattle.wz_code.specs.BodyParts.{BodyParts}
-use Rattle.wz_decode_code.specs.Pools.{LocalsRead}
 use Rattle.wz_decode_code.proofs.LocalsLemmas.{no_locals, no_code, more_behind, body_spelled, still_empty}
 use Rattle.wz_decode_code.proofs.entry.read_body.Goals as goal
 

@@ -1,4 +1,4 @@
-use Rattle.std.proofs.Common.{◌+◌, ◌≤◌, refl, sym, ◌∙◌, ap, arith}
+use Rattle.std.proofs.Common.{◌∙◌, arith}
 use Rattle.std.proofs.lemmas.Result.{err_from_is_err_and}
 use Rattle.wz_code.proofs.LawLemmas.{short_by_count}
 use Rattle.wz_decode_code.proofs.LoopLemmas.{stepping, goes_on, is_done, is_refused, no_symbol, symbol_locals}

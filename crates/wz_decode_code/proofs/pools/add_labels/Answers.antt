@@ -1,4 +1,4 @@
-use Rattle.std.proofs.Common.{◌≡◌, ◌<◌, ◌^◌, ◌-◌, length, arith, sym, ap, refl}
+use Rattle.std.proofs.Common.{◌<◌, ◌^◌, ◌-◌, length, arith, sym, ap, refl}
 use Rattle.wz_decode_code.proofs.ItemLemmas.{u32_shorter, adds, adds_none, all_added, label_grows, some_room, ends}
 use Rattle.wz_decode_code.proofs.pools.add_labels.Goals as goal
 

@@ -1,4 +1,4 @@
-use Rattle.std.proofs.Common.{◌+◌, ◌<◌, length, arith, sym}
+use Rattle.std.proofs.Common.{arith, sym}
 use Rattle.std.proofs.lemmas.Result.{err_from_is_err_and}
 use Rattle.wz_decode_code.proofs.ItemLemmas.{u32_shorter}
 use Rattle.wz_decode_code.proofs.PoolLemmas.{no_count, no_labels, no_last, table_read}
