@@ -9,6 +9,13 @@ use Rattle.wz_bytes.specs.Forms.{IsByte, byte_at, IsPiece, piece_at, Both, both_
 use Rattle.wz_bytes.proofs.ReadingLemmas.{bind_some, some_is, chosen, guarded}
 use Rattle.wz_bytes.proofs.UnsignedLaws.{unsigned_exact}
 
+-- one text behind another in front of the bytes
+joined : (bytes first middle second rest : List ℕ) → bytes ≡ first ++ middle → middle ≡ second ++ rest → bytes ≡ (first ++ second) ++ rest
+joined bytes first middle second rest e f = e ∙ ap (λ (t : List ℕ). first ++ t) f ∙ sym (append_assoc first second rest)
+
+divided : (text first second rest : List ℕ) → text ≡ first ++ second → text ++ rest ≡ first ++ (second ++ rest)
+divided text first second rest e = ap (λ (t : List ℕ). t ++ rest) e ∙ append_assoc first second rest
+
 -- ---- bytes as themselves
 
 byte_found : (bytes : List ℕ) (b : ℕ) (rest : List ℕ) → byte_at bytes ≡ Some (b, rest) → Front IsByte bytes b rest
@@ -46,11 +53,11 @@ both_exact {X = X} {Y = Y} S T p q first second = record {
       let b = second.found x.0.1 y.0.0 y.0.1 y.1 in
       subst (λ (w : (X × Y) × List ℕ). Front (Both S T) bytes w.0 w.1) (some_is _ _ y.2) (record {
         text = a.text ++ b.text;
-        parts = a.parts ∙ ap (λ (t : List ℕ). a.text ++ t) b.parts ∙ sym (append_assoc a.text b.text y.0.1);
+        parts = joined bytes a.text x.0.1 b.text y.0.1 a.parts b.parts;
         spelled = (a.text, b.text, refl, a.spelled, b.spelled);
       });
   again = λ text z rest h.
-      let parts : text ++ rest ≡ h.0 ++ (h.1 ++ rest) = ap (λ (t : List ℕ). t ++ rest) h.2 ∙ append_assoc h.0 h.1 rest in
+      let parts = divided text h.0 h.1 rest h.2 in
       rw (parts, first.again h.0 z.0 (h.1 ++ rest) h.3, second.again h.1 z.1 rest h.4) refl;
 }
 
@@ -90,16 +97,6 @@ all_found {X = X} S p exact bytes x e =
 pub all_again : {X : Type 0} (S : List ℕ → X → Type 0) (p : List ℕ → Option (X × List ℕ)) → IsExact S p → (bytes : List ℕ) (x : X) → S bytes x → all_at p bytes ≡ Some x
 all_again S p exact bytes x h = let e : p bytes ≡ Some (x, []) = ap p (sym (append-nil bytes)) ∙ exact.again bytes x [] h in rw e refl
 
-sized : {X : Type 0} (S : List ℕ → X → Type 0) (bytes size contents after piece rest : List ℕ) (n : ℕ) (x : X) → bytes ≡ size ++ contents → IsUnsigned 32 size n
-    → contents ≡ after ++ rest → IsPiece n after piece → S piece x → Front (Sized S) bytes x rest
-sized S bytes size contents after piece rest n x parts many split is spelled =
-    let all : bytes ≡ size ++ (piece ++ rest) = parts ∙ ap (λ (t : List ℕ). size ++ t) (split ∙ ap (λ (t : List ℕ). t ++ rest) is.0) in
-    record {
-      text = size ++ piece;
-      parts = all ∙ sym (append_assoc size piece rest);
-      spelled = (size, piece, refl, subst (λ (k : ℕ). IsUnsigned 32 size k) (sym is.1) many, spelled);
-    }
-
 pub sized_exact : {X : Type 0} (S : List ℕ → X → Type 0) (p : List ℕ → Option (X × List ℕ)) → IsExact S p → IsExact (Sized S) (sized_at p)
 sized_exact {X = X} S p exact = record {
   found = λ bytes x rest e.
@@ -109,9 +106,13 @@ sized_exact {X = X} S p exact = record {
       let piece = (piece_exact n.0.0).found n.0.1 part.0.0 part.0.1 part.1 in
       let y = bind_some (all_at p part.0.0) _ _ part.2 in
       subst (λ (w : X × List ℕ). Front (Sized S) bytes w.0 w.1) (some_is _ _ y.2)
-      (sized S bytes size.text n.0.1 piece.text part.0.0 part.0.1 n.0.0 y.0 size.parts size.spelled piece.parts piece.spelled (all_found S p exact part.0.0 y.0 y.1));
+      (record {
+        text = size.text ++ part.0.0;
+        parts = joined bytes size.text n.0.1 part.0.0 part.0.1 size.parts (piece.parts ∙ ap (λ (t : List ℕ). t ++ part.0.1) piece.spelled.0);
+        spelled = (size.text, part.0.0, refl, subst (λ (k : ℕ). IsUnsigned 32 size.text k) (sym piece.spelled.1) size.spelled, all_found S p exact part.0.0 y.0 y.1);
+      });
   again = λ text x rest h.
-      let parts : text ++ rest ≡ h.0 ++ (h.1 ++ rest) = ap (λ (t : List ℕ). t ++ rest) h.2 ∙ append_assoc h.0 h.1 rest in
+      let parts = divided text h.0 h.1 rest h.2 in
       rw (parts, (unsigned_exact 32).again h.0 (length h.1) (h.1 ++ rest) h.3, (piece_exact (length h.1)).again h.1 h.1 rest (refl, refl), all_again S p exact h.1 x h.4) refl;
 }
 
@@ -122,7 +123,7 @@ items_again : {X : Type 0} (S : List ℕ → X → Type 0) (p : List ℕ → Opt
 unfolding items_at
 items_again S p exact [] text rest h = rw h refl
 items_again S p exact (x ∷ xs) text rest h =
-    let parts : text ++ rest ≡ h.0 ++ (h.1 ++ rest) = ap (λ (t : List ℕ). t ++ rest) h.2 ∙ append_assoc h.0 h.1 rest in
+    let parts = divided text h.0 h.1 rest h.2 in
     rw (parts, exact.again h.0 x (h.1 ++ rest) h.3, items_again S p exact xs h.1 rest h.4) refl
 
 items_found : {X : Type 0} (S : List ℕ → X → Type 0) (p : List ℕ → Option (X × List ℕ)) → IsExact S p
@@ -140,7 +141,7 @@ items_found {X = X} S p exact (suc n) bytes xs rest e =
       ap (λ (k : ℕ). suc k) more.0,
       record {
         text = first.text ++ more.1.text;
-        parts = first.parts ∙ ap (λ (t : List ℕ). first.text ++ t) more.1.parts ∙ sym (append_assoc first.text more.1.text others.0.1);
+        parts = joined bytes first.text x.0.1 more.1.text others.0.1 first.parts more.1.parts;
         spelled = (first.text, more.1.text, refl, first.spelled, more.1.spelled);
       },
     )
@@ -166,11 +167,11 @@ vector_exact {X = X} S p exact = record {
       let many : IsUnsigned 32 count.text (length xs) = rw items.0 count.spelled in
       record {
         text = count.text ++ items.1.text;
-        parts = count.parts ∙ ap (λ (t : List ℕ). count.text ++ t) items.1.parts ∙ sym (append_assoc count.text items.1.text rest);
+        parts = joined bytes count.text n.0.1 items.1.text rest count.parts items.1.parts;
         spelled = (count.text, items.1.text, refl, many, items.1.spelled);
       };
   again = λ text xs rest h.
-      let parts : text ++ rest ≡ h.0 ++ (h.1 ++ rest) = ap (λ (t : List ℕ). t ++ rest) h.2 ∙ append_assoc h.0 h.1 rest in
+      let parts = divided text h.0 h.1 rest h.2 in
       rw (parts, (unsigned_exact 32).again h.0 (length xs) (h.1 ++ rest) h.3) (items_again S p exact xs h.1 rest h.4);
 }
 
@@ -182,11 +183,11 @@ bytes_exact = record {
       let piece = (piece_exact n.0.0).found n.0.1 xs rest n.2 in
       record {
         text = count.text ++ xs;
-        parts = count.parts ∙ ap (λ (t : List ℕ). count.text ++ t) (piece.parts ∙ ap (λ (t : List ℕ). t ++ rest) piece.spelled.0) ∙ sym (append_assoc count.text xs rest);
+        parts = joined bytes count.text n.0.1 xs rest count.parts (piece.parts ∙ ap (λ (t : List ℕ). t ++ rest) piece.spelled.0);
         spelled = (count.text, refl, subst (λ (k : ℕ). IsUnsigned 32 count.text k) (sym piece.spelled.1) count.spelled);
       };
   again = λ text xs rest h.
-      let parts : text ++ rest ≡ h.0 ++ (xs ++ rest) = ap (λ (t : List ℕ). t ++ rest) h.1 ∙ append_assoc h.0 xs rest in
+      let parts = divided text h.0 xs rest h.1 in
       rw (parts, (unsigned_exact 32).again h.0 (length xs) (xs ++ rest) h.2) ((piece_exact (length xs)).again xs xs rest (refl, refl));
 }
 

@@ -92,3 +92,31 @@ signed_short bits (b ∷ text) z some (inr (inl h)) = rw h.0 (omega arith)
 signed_short bits (b ∷ text) z some (inr (inr h)) =
     let rest = signed_short (bits - 7) text h.3 (omega (arith, h.2)) h.5 in
     omega (arith, rest, h.2)
+
+-- a spelling has a byte at least
+pub signed_some : (bits : ℕ) (text : List ℕ) (z : ℤ) → IsSigned bits text z → 1 ≤ length text
+signed_some bits [] z h = absurd h
+signed_some bits (b ∷ text) z h = omega arith
+
+same_byte : (a b : List ℕ) (x y : ℕ) → a ≡ [] → b ≡ [] → x ≡ y → x ∷ a ≡ y ∷ b
+same_byte a b x y none nothing same = ap (λ (t : List ℕ). x ∷ t) none ∙ ap (λ (m : ℕ). m ∷ []) same ∙ ap (λ (t : List ℕ). y ∷ t) (sym nothing)
+
+too_long : (bits : ℕ) (a b : List ℕ) (z : ℤ) → a ≡ [] → IsSigned bits b z → length a ≡ length b → ⊥
+too_long bits a b z none h e = omega (arith, e, ap length none, signed_some bits b z h)
+
+pub one_signed_of_length : (bits : ℕ) (a b : List ℕ) (z : ℤ) → IsSigned bits a z → IsSigned bits b z → length a ≡ length b → a ≡ b
+one_signed_of_length bits [] b z h k e = absurd h
+one_signed_of_length bits (x ∷ a) [] z h k e = absurd k
+one_signed_of_length bits (x ∷ a) (y ∷ b) z (inl h) (inl k) e = same_byte a b x y h.0 k.0 (omega (arith, ints, h.3, k.3))
+one_signed_of_length bits (x ∷ a) (y ∷ b) z (inl h) (inr (inl k)) e = absurd (omega (arith, ints, h.3, k.4, k.2))
+one_signed_of_length bits (x ∷ a) (y ∷ b) z (inl h) (inr (inr k)) e = absurd (too_long (bits - 7) a b k.3 h.0 k.5 (omega (arith, e)))
+one_signed_of_length bits (x ∷ a) (y ∷ b) z (inr (inl h)) (inl k) e = absurd (omega (arith, ints, k.3, h.4, h.2))
+one_signed_of_length bits (x ∷ a) (y ∷ b) z (inr (inl h)) (inr (inl k)) e = same_byte a b x y h.0 k.0 (omega (arith, ints, h.4, k.4))
+one_signed_of_length bits (x ∷ a) (y ∷ b) z (inr (inl h)) (inr (inr k)) e = absurd (too_long (bits - 7) a b k.3 h.0 k.5 (omega (arith, e)))
+one_signed_of_length bits (x ∷ a) (y ∷ b) z (inr (inr h)) (inl k) e = absurd (too_long (bits - 7) b a h.3 k.0 h.5 (omega (arith, e)))
+one_signed_of_length bits (x ∷ a) (y ∷ b) z (inr (inr h)) (inr (inl k)) e = absurd (too_long (bits - 7) b a h.3 k.0 h.5 (omega (arith, e)))
+one_signed_of_length bits (x ∷ a) (y ∷ b) z (inr (inr h)) (inr (inr k)) e =
+    let high : k.3 ≡ h.3 = omega (arith, ints, h.0, h.1, h.4, k.0, k.1, k.4) in
+    let low : x ≡ y = omega (arith, ints, h.0, h.1, h.4, k.0, k.1, k.4) in
+    let rest = one_signed_of_length (bits - 7) a b h.3 h.5 (subst (λ (m : ℤ). IsSigned (bits - 7) b m) high k.5) (omega (arith, e)) in
+    ap (λ (m : ℕ). m ∷ a) low ∙ ap (λ (t : List ℕ). y ∷ t) rest

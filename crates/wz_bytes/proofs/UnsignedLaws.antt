@@ -1,5 +1,5 @@
 -- The reading of unsigned integers is exact.
-use Rattle.std.proofs.Common.{◌≡◌, length, ℕ, ◌-◌, ◌^◌, ◌+◌, ◌*◌, ◌<◌, ◌≤◌, List, [], ◌∷◌, ◌++◌, Some, ltb, refl, sym, ap, subst, arith, inl, inr}
+use Rattle.std.proofs.Common.{◌≡◌, length, ℕ, ◌-◌, ◌^◌, ◌+◌, ◌*◌, ◌<◌, ◌≤◌, List, [], ◌∷◌, ◌++◌, Some, ltb, refl, sym, ap, ◌∙◌, subst, arith, inl, inr}
 use Rattle.std.proofs.lemmas.Bool.{lt-ltb, ltb-true, ltb-false, le-ltb}
 use Rattle.wz_bytes.specs.Reading.{Front, IsExact}
 use Rattle.wz_bytes.specs.Unsigned.{IsUnsigned, unsigned_at}
@@ -58,3 +58,23 @@ unsigned_short bits (b ∷ text) n some (inl h) = rw h.0 (omega arith)
 unsigned_short bits (b ∷ text) n some (inr h) =
     let rest = unsigned_short (bits - 7) text h.3 (omega (arith, h.2)) h.5 in
     omega (arith, rest, h.2)
+
+-- a spelling has a byte at least
+pub unsigned_some : (bits : ℕ) (text : List ℕ) (n : ℕ) → IsUnsigned bits text n → 1 ≤ length text
+unsigned_some bits [] n h = absurd h
+unsigned_some bits (b ∷ text) n h = omega arith
+
+pub one_unsigned_of_length : (bits : ℕ) (a b : List ℕ) (n : ℕ) → IsUnsigned bits a n → IsUnsigned bits b n → length a ≡ length b → a ≡ b
+one_unsigned_of_length bits [] b n h k e = absurd h
+one_unsigned_of_length bits (x ∷ a) [] n h k e = absurd k
+one_unsigned_of_length bits (x ∷ a) (y ∷ b) n (inl h) (inl k) e =
+    ap (λ (t : List ℕ). x ∷ t) h.0 ∙ ap (λ (m : ℕ). m ∷ []) (sym h.3 ∙ k.3) ∙ ap (λ (t : List ℕ). y ∷ t) (sym k.0)
+one_unsigned_of_length bits (x ∷ a) (y ∷ b) n (inl h) (inr k) e =
+    absurd (omega (arith, e, ap length h.0, unsigned_some (bits - 7) b k.3 k.5))
+one_unsigned_of_length bits (x ∷ a) (y ∷ b) n (inr h) (inl k) e =
+    absurd (omega (arith, e, ap length k.0, unsigned_some (bits - 7) a h.3 h.5))
+one_unsigned_of_length bits (x ∷ a) (y ∷ b) n (inr h) (inr k) e =
+    let high : k.3 ≡ h.3 = omega (arith, h.0, h.1, h.4, k.0, k.1, k.4) in
+    let low : x ≡ y = omega (arith, h.0, h.1, h.4, k.0, k.1, k.4) in
+    let rest = one_unsigned_of_length (bits - 7) a b h.3 h.5 (subst (λ (m : ℕ). IsUnsigned (bits - 7) b m) high k.5) (omega (arith, e)) in
+    ap (λ (m : ℕ). m ∷ a) low ∙ ap (λ (t : List ℕ). y ∷ t) rest

@@ -1,6 +1,6 @@
 -- What holds of the spellings of numbers and names, whatever reads or writes them.
 use Rattle.std.specs.Prelude.{◌≡◌, ℕ, ℤ, ◌+◌, ◌*◌, ◌^◌, ◌<◌, ◌≤◌, List, ◌++◌, length, Some, IsUtf8}
-use Rattle.wz_bytes.specs.Reading.{IsExact, OneFront, IsShortest}
+use Rattle.wz_bytes.specs.Reading.{IsExact, OneFront, OneOfEachLength, IsShortest}
 use Rattle.wz_bytes.specs.Unsigned.{IsUnsigned, unsigned_at}
 use Rattle.wz_bytes.specs.Signed.{IsSigned, IsWithin, signed_at}
 use Rattle.wz_bytes.specs.Shortest.{shortest_unsigned, shortest_signed}
@@ -52,6 +52,14 @@ SignedIsShortest = (bits : ℕ) (z : ℤ) → IsWithin bits z → IsWithin 64 z 
 
 abbrev pub NameIsSpelled : Type 0
 NameIsSpelled = (name : List ℕ) → IsUtf8 name → length name < 2 ^ 32 → IsName (shortest_unsigned (length name) ++ name) name
+
+-- ---- so it is the only spelling with the fewest bytes
+
+abbrev pub OneUnsignedOfEachLength : Type 0
+OneUnsignedOfEachLength = (bits : ℕ) → OneOfEachLength (λ t n. IsUnsigned bits t n)
+
+abbrev pub OneSignedOfEachLength : Type 0
+OneSignedOfEachLength = (bits : ℕ) → OneOfEachLength (λ t z. IsSigned bits t z)
 
 -- ---- what is written is read again, whatever follows
 

@@ -22,6 +22,10 @@ pub record IsExact {X : Type 0} (Spells : List ℕ → X → Type 0) (read : Lis
   pub found : (bytes : List ℕ) (x : X) (rest : List ℕ) → read bytes ≡ Some (x, rest) → Front Spells bytes x rest
   pub again : (text : List ℕ) (x : X) (rest : List ℕ) → Spells text x → read (text ++ rest) ≡ Some (x, rest)
 
+-- texts of one length that spell one value are one text
+abbrev pub OneOfEachLength : {X : Type 0} → (List ℕ → X → Type 0) → Type 0
+OneOfEachLength {X = X} Spells = (a b : List ℕ) (x : X) → Spells a x → Spells b x → length a ≡ length b → a ≡ b
+
 -- the text spells the value, and no text that spells it is shorter
 pub record IsShortest {X : Type 0} (Spells : List ℕ → X → Type 0) (text : List ℕ) (x : X) : Type 0 where
   pub spelled : Spells text x

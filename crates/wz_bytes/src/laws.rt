@@ -5,6 +5,7 @@ ghost use Rattle.wz_bytes.specs.Laws.{UnsignedIsExact, SignedIsExact, NameIsExac
 ghost use Rattle.wz_bytes.specs.Laws.{OneUnsigned, OneSigned, OneName};
 ghost use Rattle.wz_bytes.specs.Laws.{UnsignedIsWithin, SignedIsWithin, UnsignedIsShort, SignedIsShort};
 ghost use Rattle.wz_bytes.specs.Laws.{UnsignedIsShortest, SignedIsShortest, NameIsSpelled};
+ghost use Rattle.wz_bytes.specs.Laws.{OneUnsignedOfEachLength, OneSignedOfEachLength};
 ghost use Rattle.wz_bytes.specs.Laws.{UnsignedIsReadAgain, SignedIsReadAgain, NameIsReadAgain};
 
 /// The reading as a function, which contracts of readers cite, gives just what the bytes spell.
@@ -29,10 +30,13 @@ pub fn spelling_is_bounded()
     ensures signed_length { SignedIsShort }
 {}
 
-/// What is written spells the number at each width that holds it, and no other spelling is shorter.
+/// What is written spells the number at each width that holds it; no spelling is shorter, and no other
+/// is as short.
 pub fn written_is_shortest()
     ensures unsigned { UnsignedIsShortest }
     ensures signed { SignedIsShortest }
+    ensures only_unsigned { OneUnsignedOfEachLength }
+    ensures only_signed { OneSignedOfEachLength }
     ensures name { NameIsSpelled }
 {}
 

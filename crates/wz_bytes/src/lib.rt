@@ -21,6 +21,8 @@ pub mod laws;
 mod names;
 mod signed;
 mod slices;
+#[cfg(test)]
+mod tests;
 mod unsigned;
 
 pub use cursor::Cursor;

@@ -29,7 +29,8 @@ pub fn read_signed<const BITS: u32>(bytes: &[u8], at: usize) -> Option<(i64, usi
 /// The number of at most so many bits in front, and the bytes behind it. Each call takes seven bits off.
 #[tactic(auto, unfolding(crate::specs::Signed::signed_at))]
 fn front(bits: u32, bytes: &[u8]) -> Option<(i64, &[u8])>
-    requires { (1 ≤ bits) × (bits ≤ 64) }
+    requires least { 1 ≤ bits }
+    requires most { bits ≤ 64 }
     ensures below { IfSome result (λ r. IsWithin bits r.0) }
     ensures shorter { IfSome result (λ r. length r.1.now < length bytes.now) }
     ensures exact { option_map (λ r. (r.0, r.1.now)) result ≡ signed_at bits bytes.now }
@@ -51,7 +52,8 @@ fn front(bits: u32, bytes: &[u8]) -> Option<(i64, &[u8])>
 /// What a last byte stands for, of which so many bits are used: the others have to be copies of the
 /// sign.
 fn last_value(bits: u32, byte: u8) -> Option<i64>
-    requires { (1 ≤ bits) × (byte < 128) }
+    requires least { 1 ≤ bits }
+    requires last { byte < 128 }
     ensures below { IfSome result (λ z. IsWithin bits z) }
     ensures exact { result ≡ last_group bits byte }
 {

@@ -38,11 +38,7 @@ fn front(bits: u32, bytes: &[u8]) -> Option<(u64, &[u8])>
     };
     let byte = u64::from(*byte);
     if byte < 128 {
-        return if fits(byte, bits) {
-            Some((byte, rest))
-        } else {
-            None
-        };
+        return fits(byte, bits).then_some((byte, rest));
     }
     if bits <= 7 {
         return None;

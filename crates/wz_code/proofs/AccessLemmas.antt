@@ -1,5 +1,5 @@
 -- The table of the accesses, read backwards.
-use Rattle.std.proofs.Common.{◌≡◌, ◌≢◌, ℕ, List, Option, Some, None, Bool, true, false, IfSome, IsNone, ◌==◌, refl, sym, ap, ◌∙◌}
+use Rattle.std.proofs.Common.{◌≡◌, ◌≢◌, ℕ, Option, Some, None, Bool, true, false, IfSome, IsNone, ◌==◌, refl, sym, ap, ◌∙◌}
 use Rattle.std.proofs.lemmas.Bool.{eqb-true}
 use Rattle.wz_code.specs.declared.accesses.MemOp.{MemOp}
 use Rattle.wz_code.specs.declared.accesses.MemOp.TheVariants.{I32Load}

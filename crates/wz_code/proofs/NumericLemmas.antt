@@ -1,5 +1,5 @@
 -- The table of the numeric operations, read backwards.
-use Rattle.std.proofs.Common.{◌≡◌, ◌≢◌, ℕ, List, [], ◌∷◌, Option, Some, None, Bool, true, false, cond, find, IfSome, IsNone, ◌==◌, ◌&&◌, refl, sym, ap, ◌∙◌, arith}
+use Rattle.std.proofs.Common.{◌≡◌, ◌≢◌, ℕ, Option, Some, None, Bool, true, false, IfSome, IsNone, ◌==◌, ◌&&◌, refl, sym, ap, ◌∙◌}
 use Rattle.std.proofs.lemmas.Bool.{eqb-true}
 use Rattle.wz_code.specs.declared.numeric.NumOp.{NumOp}
 use Rattle.wz_code.specs.declared.numeric.NumOp.TheVariants.{I32Eqz}

@@ -1,5 +1,5 @@
 -- Section 5.4.6 of the Core Specification (which opcode stands for which access of a memory), with the types and widths of sections 3.3.7 and 4.4.7.
-use Rattle.std.specs.Prelude.{◌≡◌, ℕ, Bool, true, false, ◌==◌, find, List, [], ◌∷◌, Option, Some, None}
+use Rattle.std.specs.Prelude.{◌≡◌, ℕ, true, false, ◌==◌, find, List, [], ◌∷◌, Option, Some}
 use Rattle.wz_types.specs.declared.types.ValType.{ValType}
 use Rattle.wz_types.specs.declared.types.ValType.TheVariants.{I32, I64, F32, F64}
 use Rattle.wz_code.specs.declared.accesses.MemOp.{MemOp}

@@ -9,7 +9,7 @@ use Rattle.wz_decode_code.specs.Types.{IsValType, type_at}
 use Rattle.wz_decode_code.specs.Instructions.{IsU32}
 use Rattle.wz_decode_code.specs.InstrReading.{u32_at}
 use Rattle.wz_decode_code.specs.Entry.{Run}
-use Rattle.wz_decode_code.specs.Pools.{with_labels, with_types, with_runs, behind_items, Adding, Added, Behind, Stand}
+use Rattle.wz_decode_code.specs.Pools.{with_labels, with_types, with_runs, behind_items, Adding, Added, EndsBehind, Stand}
 use Rattle.wz_decode_code.proofs.TypeLaws.{type_exact}
 use Rattle.wz_decode_code.proofs.OperandLaws.{u32_exact}
 
@@ -135,7 +135,7 @@ as_many read grow n i bytes old mid rest was now a grown =
     omega (arith, ap (λ (l : List _). length l) (grown a.items a.is), length-append was a.items, a.many)
 
 -- the place behind the last one, after one more
-pub ends : {X : Type 0} (mid new : List X) (x : X) (i number end : ℕ) → new ≡ mid ++ x ∷ [] → number ≡ length mid → end ≡ number + 1 → Behind (i + 1) end (length new)
+pub ends : {X : Type 0} (mid new : List X) (x : X) (i number end : ℕ) → new ≡ mid ++ x ∷ [] → number ≡ length mid → end ≡ number + 1 → EndsBehind (i + 1) end (length new)
 ends mid new x i number end is at e =
     let size : length new ≡ length mid + 1 = ap (λ (l : List _). length l) is ∙ length-append mid (x ∷ []) in
     (λ none. absurd (omega (arith, none)), λ some. omega (arith, size, at, e))

@@ -41,8 +41,8 @@ pub record Added {X : Type 0} (read : List ℕ → Option (X × List ℕ)) (grow
   pub fewer : length items + length rest ≤ length bytes
 
 -- the place behind the last of so many items that were added, or 0 where there are none
-abbrev pub Behind : ℕ → ℕ → ℕ → Type 0
-Behind added end now = (added ≡ 0 → end ≡ 0) × (0 < added → end ≡ now)
+abbrev pub EndsBehind : ℕ → ℕ → ℕ → Type 0
+EndsBehind added end now = (added ≡ 0 → end ≡ 0) × (0 < added → end ≡ now)
 
 -- so many items from a place on are those that were added
 pub record Stand {X : Type 0} (first count : ℕ) (old new : List X) : Type 0 where

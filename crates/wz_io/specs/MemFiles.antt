@@ -1,11 +1,11 @@
 -- What the files in memory mean: they tell everything. These meanings are this tool's own: the
 -- WebAssembly Core Specification doesn't speak of files.
-use Rattle.std.specs.Prelude.{ℕ, Bool, List, [], None, Some, drop, is_none}
+use Rattle.std.specs.Prelude.{ℕ, Bool, List, [], Some, drop, is_none}
 use Rattle.std.specs.FinMap.{empty}
 use Rattle.wz_io.specs.World.{World, Told, Name, File, input_of, written}
+use Rattle.wz_io.specs.Plan.{Plan}
 use Rattle.wz_io.specs.Stream.{stream_current, memory_told}
 use Rattle.wz_io.specs.declared.mem_files.MemFiles.{MemFiles}
-use Rattle.wz_io.specs.declared.plan.Failure.{Failure}
 
 abbrev pub mem_world : MemFiles → World
 mem_world files = record {
@@ -21,18 +21,12 @@ abbrev pub mem_chunk : MemFiles → ℕ
 mem_chunk files = files.chunk
 
 -- the failures that are listed
-abbrev pub mem_plan : MemFiles → List Failure
+abbrev pub mem_plan : MemFiles → Plan
 mem_plan files = files.plan.items
 
--- nothing was opened yet, there are no files, and nothing failed
-abbrev pub unopened : List ℕ → World
-unopened stdin = record {
-  faults = 0;
-  current = None;
-  told = record { stdin = Some stdin; stdout = Some []; files = Some empty };
-  left = Some [];
-  reads = 0;
-}
+-- this standard input, nothing on the standard output, and no files
+abbrev pub told_at_start : List ℕ → Told
+told_at_start stdin = record { stdin = Some stdin; stdout = Some []; files = Some empty }
 
 -- with this file
 abbrev pub with_file : World → List ℕ → List ℕ → World

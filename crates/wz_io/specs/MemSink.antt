@@ -1,6 +1,6 @@
 -- What a sink in memory means: it tells its text. These meanings are this tool's own: the WebAssembly
 -- Core Specification doesn't speak of files.
-use Rattle.std.specs.Prelude.{ℕ, [], Option, Some}
+use Rattle.std.specs.Prelude.{ℕ, Option, Some}
 use Rattle.wz_io.specs.World.{Said}
 use Rattle.wz_io.specs.declared.mem_sink.MemSink.{MemSink}
 
@@ -10,7 +10,3 @@ mem_said sink = record { faults = sink.faults; text = Some sink.text.items }
 -- how many more puts go through, where not all do
 abbrev pub mem_spared : MemSink → Option ℕ
 mem_spared sink = sink.spared
-
--- nothing was put, and nothing failed
-abbrev pub unused : Said
-unused = record { faults = 0; text = Some [] }

@@ -8,8 +8,8 @@ use Rattle.wz_io.specs.declared.plan.Failure.{Failure}
 use Rattle.wz_io.specs.declared.files.OpenFault.{OpenFault}
 use Rattle.wz_io.specs.declared.files.OpenFault.TheVariants as fault
 
--- the failures that are listed, each with its kind and with the number of calls of that kind up to
--- and with the one that fails; where that is 0, it has been made
+-- the failures that are listed, each with its kind and the number of calls of that kind up to and
+-- with the one that fails; the number is 0 once that one was made
 abbrev pub Plan : Type 0
 Plan = List Failure
 
@@ -21,7 +21,7 @@ kind_number kind.Write = 3
 kind_number kind.Close = 4
 
 -- the next call of this kind is to fail
-abbrev pub is_listed : List Failure → CallKind → Bool
+abbrev pub is_listed : Plan → CallKind → Bool
 is_listed plan k = list_any (λ failure. (kind_number failure.kind == kind_number k) && (failure.calls == 1)) plan
 
 abbrev pub counted_failure : CallKind → Failure → Failure
@@ -29,15 +29,15 @@ counted_failure k failure =
     if kind_number failure.kind == kind_number k then record failure { calls = failure.calls - 1 } else failure
 
 -- once a call of this kind was made
-abbrev pub after_call : List Failure → CallKind → List Failure
+abbrev pub after_call : Plan → CallKind → Plan
 after_call plan k = map (counted_failure k) plan
 
 -- the nth call of this kind from here on is listed too
-abbrev pub with_failure_at : List Failure → CallKind → ℕ → List Failure
+abbrev pub with_failure_at : Plan → CallKind → ℕ → Plan
 with_failure_at plan k nth = plan ++ record { kind = k; calls = nth } ∷ []
 
 -- an opening that finds no memory isn't counted
-abbrev pub after_opening : {T : Type 0} → List Failure → CallKind → Result T OpenFault → List Failure
+abbrev pub after_opening : {T : Type 0} → Plan → CallKind → Result T OpenFault → Plan
 after_opening plan k (Err fault.NoMemory) = plan
 after_opening plan k result = after_call plan k
 

@@ -8,6 +8,10 @@ use Rattle.wz_io.specs.Calls.{with_failure}
 use Rattle.wz_io.specs.declared.reading.ReadAll.{ReadAll}
 use Rattle.wz_io.specs.declared.reading.ReadAll.TheVariants as all
 
+-- some bytes were read from the front of what was left
+abbrev pub TakesFront : Option (List ℕ) → Option (List ℕ) → Type 0
+TakesFront before now = (bytes : List ℕ) × (before ≡ prepend_known bytes now)
+
 -- some n bytes were read from the front of what was left
 abbrev pub TakesSome : ℕ → Option (List ℕ) → Option (List ℕ) → Type 0
 TakesSome n before now = (bytes : List ℕ) × (before ≡ prepend_known bytes now) × (length bytes ≡ n)

@@ -6,7 +6,3 @@ use Rattle.wz_io.specs.declared.std_sink.StdSink.{StdSink}
 
 abbrev pub std_said : {A : Type 0} → StdSink A → Said
 std_said sink = record { faults = sink.faults; text = None }
-
--- nothing failed yet
-abbrev pub unused : Said
-unused = record { faults = 0; text = None }

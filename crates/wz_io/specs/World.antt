@@ -1,6 +1,6 @@
 -- What is known of the files and streams that a run may touch. These meanings are this tool's own:
 -- the WebAssembly Core Specification doesn't speak of files.
-use Rattle.std.specs.Prelude.{◌≡◌, ℕ, ◌+◌, ◌-◌, ◌^◌, ◌≤◌, min, Bool, true, List, [], ◌++◌, Option, Some, IsSome, IfSome, unwrap_or, ⊤}
+use Rattle.std.specs.Prelude.{◌≡◌, ℕ, ◌+◌, ◌-◌, ◌^◌, ◌≤◌, min, Bool, true, List, [], ◌++◌, Option, None, Some, IsSome, IfSome, unwrap_or, ⊤}
 use Rattle.std.specs.Option.{option_map, option_and_then}
 use Rattle.std.specs.Ordering.{nat_cmp}
 use Rattle.std.specs.Cmp.Lexicographic.{slice_cmp}
@@ -49,6 +49,14 @@ pub record World : Type 0 where
 pub record Said : Type 0 where
   pub faults : ℕ
   pub text : Option (List ℕ)
+
+-- nothing was opened yet, and nothing failed
+abbrev pub unopened : Told → Option (List ℕ) → World
+unopened told left = record { faults = 0; current = None; told = told; left = left; reads = 0 }
+
+-- nothing failed yet
+abbrev pub unused : Option (List ℕ) → Said
+unused text = record { faults = 0; text = text }
 
 -- the count rose, or stands at its last value
 abbrev pub Rose : ℕ → ℕ → Type 0

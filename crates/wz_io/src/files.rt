@@ -19,6 +19,7 @@ pub enum OpenFault {
     NoMemory,
 }
 
+/// What is open is read, or is written.
 #[derive(Clone, Copy, Debug, PartialEq, Eq)]
 pub enum Side {
     Input,

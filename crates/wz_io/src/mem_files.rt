@@ -39,14 +39,14 @@ pub struct MemFiles {
 impl MemFiles {
     ghost use Rattle.std.specs.Prelude.{OnOk, OnErr, Some, []};
     ghost use Rattle.std.specs.Option.{option_copied};
-    ghost use Rattle.wz_io.specs.World.{World, File, input_of};
+    ghost use Rattle.wz_io.specs.World.{World, File, input_of, unopened};
     ghost use Rattle.wz_io.specs.Plan.{with_failure_at};
-    ghost use Rattle.wz_io.specs.MemFiles.{mem_world, mem_chunk, mem_plan, unopened, with_file};
+    ghost use Rattle.wz_io.specs.MemFiles.{mem_world, mem_chunk, mem_plan, told_at_start, with_file};
 
     /// No files, this standard input, and no failure listed.
     pub fn new(alloc: Global, stdin: Vec<u8>, chunk: usize) -> MemFiles
         requires chunk { 0 < chunk }
-        ensures world { mem_world result ≡ unopened stdin.items }
+        ensures world { mem_world result ≡ unopened (told_at_start stdin.items) (Some []) }
         ensures chunk { mem_chunk result ≡ chunk }
         ensures plan { mem_plan result ≡ [] }
     {

@@ -16,14 +16,15 @@ pub struct MemSink {
 }
 
 impl MemSink {
-    ghost use Rattle.std.specs.Prelude.{Some};
+    ghost use Rattle.std.specs.Prelude.{Some, []};
     ghost use Rattle.std.specs.Option.{ForSome, option_map};
-    ghost use Rattle.wz_io.specs.MemSink.{mem_said, mem_spared, unused};
+    ghost use Rattle.wz_io.specs.World.{unused};
+    ghost use Rattle.wz_io.specs.MemSink.{mem_said, mem_spared};
 
     /// Fails from that put on, counted from 1.
     pub fn new(alloc: Global, fails_from: Option<u32>) -> MemSink
         requires first { ForSome fails_from (λ first. 0 < first) }
-        ensures said { mem_said result ≡ unused }
+        ensures said { mem_said result ≡ unused (Some []) }
         ensures spared { mem_spared result ≡ option_map (λ first. first - 1) fails_from }
     {
         MemSink {

@@ -21,9 +21,9 @@ enum Target<F> {
     File(F),
 }
 
-// The side that was opened last, and what is open of it.
+// The side that was opened last, and what is still open of it.
 #[derive(Drop)]
-enum Stream<I, F> {
+enum Opened<I, F> {
     Nothing,
     Input(Option<Source<I, F>>),
     Output(Option<Target<F>>),
@@ -36,21 +36,23 @@ pub struct OsFiles<'r, R: rt::Files + Input> {
     faults: u64,
     name: OwnedName,
     failed: bool,
-    stream: Stream<R::Reader, R::File>,
+    opened: Opened<R::Reader, R::File>,
 }
 
 impl<'r, R: rt::Files + Input> OsFiles<'r, R> {
-    ghost use Rattle.wz_io.specs.OsFiles.{os_world, unopened};
+    ghost use Rattle.std.specs.Prelude.{None};
+    ghost use Rattle.wz_io.specs.World.{unopened};
+    ghost use Rattle.wz_io.specs.OsFiles.{os_world, untold};
 
     pub fn new(rt: &'r R) -> OsFiles<'r, R>
-        ensures unopened { os_world result ≡ unopened }
+        ensures unopened { os_world result ≡ unopened untold None }
     {
         OsFiles {
             rt,
             faults: 0,
             name: OwnedName::Standard,
             failed: false,
-            stream: Stream::Nothing,
+            opened: Opened::Nothing,
         }
     }
 }
@@ -122,12 +124,12 @@ impl<'r, R: rt::Files + Input + Print + AllocGlobal> Files for OsFiles<'r, R> {
         let Ok(copy) = copied(self.rt.alloc(), name) else {
             return Err(OpenFault::NoMemory);
         };
-        put(&mut self.stream, Stream::Input(None));
+        put(&mut self.opened, Opened::Input(None));
         put(&mut self.name, copy);
         match open_source(self.rt, &name) {
             Ok(source) => {
                 self.failed = false;
-                put(&mut self.stream, Stream::Input(Some(source)));
+                put(&mut self.opened, Opened::Input(Some(source)));
                 Ok(())
             }
             Err(_) => {
@@ -139,7 +141,7 @@ impl<'r, R: rt::Files + Input + Print + AllocGlobal> Files for OsFiles<'r, R> {
     }
 
     fn read(&mut self, buffer: &mut [u8]) -> Result<usize, Failed> {
-        let Stream::Input(Some(source)) = &mut self.stream else {
+        let Opened::Input(Some(source)) = &mut self.opened else {
             unreachable!()
         };
         match read_from(source, buffer) {
@@ -156,12 +158,12 @@ impl<'r, R: rt::Files + Input + Print + AllocGlobal> Files for OsFiles<'r, R> {
         let Ok(copy) = copied(self.rt.alloc(), name) else {
             return Err(OpenFault::NoMemory);
         };
-        put(&mut self.stream, Stream::Output(None));
+        put(&mut self.opened, Opened::Output(None));
         put(&mut self.name, copy);
         match open_target(self.rt, &name) {
             Ok(target) => {
                 self.failed = false;
-                put(&mut self.stream, Stream::Output(Some(target)));
+                put(&mut self.opened, Opened::Output(Some(target)));
                 Ok(())
             }
             Err(_) => {
@@ -173,7 +175,7 @@ impl<'r, R: rt::Files + Input + Print + AllocGlobal> Files for OsFiles<'r, R> {
     }
 
     fn write(&mut self, piece: &[u8]) -> Result<usize, Failed> {
-        let Stream::Output(Some(target)) = &mut self.stream else {
+        let Opened::Output(Some(target)) = &mut self.opened else {
             unreachable!()
         };
         match write_to(self.rt, target, piece) {
@@ -187,7 +189,7 @@ impl<'r, R: rt::Files + Input + Print + AllocGlobal> Files for OsFiles<'r, R> {
     }
 
     fn close(&mut self) -> Result<(), Failed> {
-        put(&mut self.stream, Stream::Output(None));
+        put(&mut self.opened, Opened::Output(None));
         Ok(())
     }
 }

@@ -13,8 +13,8 @@ pub enum CallKind {
     Close,
 }
 
-/// A call that is to fail: the one of this kind after which as many have been made as stand here,
-/// and where that is 0, it has been made.
+/// A call that is to fail. `calls` counts the calls of its kind up to and with it, and is 0 once it was
+/// made.
 #[derive(Clone, Copy, Debug)]
 pub struct Failure {
     pub kind: CallKind,

@@ -1,8 +1,8 @@
 //! Reading an input to its end.
 
-ghost use Rattle.std.specs.Prelude.{◌≡◌, ◌+◌, ◌≤◌, ◌<◌, [], OnOk, IfOk, IfSome, IsErrOf, length};
+ghost use Rattle.std.specs.Prelude.{◌≡◌, ◌+◌, ◌≤◌, ◌<◌, [], OnOk, OnErr, IfOk, IfSome, IsErrOf, length};
 ghost use Rattle.wz_io.specs.World.{World, IsOpen, Rose};
-ghost use Rattle.wz_io.specs.Reading.{TakesSome, current_after_read_all};
+ghost use Rattle.wz_io.specs.Reading.{TakesFront, TakesSome, current_after_read_all};
 ghost use Rattle.wz_io.specs.declared.files.Side.TheVariants.{Input};
 
 use crate::Files;
@@ -34,6 +34,8 @@ pub fn read_all<F: Files>(alloc: Global, files: &mut F, limit: usize) -> Result<
     ensures within { IfOk result (λ all. length all.items ≤ limit) }
     ensures ended { OnOk result (IfSome (F.world files.new).left (λ left. left ≡ [])) }
 
+    // After any error, some first bytes of what was left are gone.
+    ensures begun { OnErr result (TakesFront (F.world files.old).left (F.world files.new).left) }
     // One byte more than the limit was read.
     ensures too_long { IsErrOf result ReadAll.TooLong →
         TakesSome (limit + 1) (F.world files.old).left (F.world files.new).left }

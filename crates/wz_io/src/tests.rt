@@ -1,3 +1,5 @@
+//! What no clause says: that calls succeed with memory at hand, and what real files give back.
+
 ghost use Rattle.std.specs.Prelude.{OnOk};
 ghost use Rattle.wz_io.specs.World.{World, IsOpen};
 ghost use Rattle.wz_io.specs.declared.files.Side.TheVariants.{Output};

@@ -1,4 +1,4 @@
--- Section 4.2.1 of the Core Specification (values), and sections 4.5.2 and 4.5.3 (when a value has a type).
+-- Section 4.2.1 of the Core Specification (values), and section 4.5.2 (when a value has a type).
 use Rattle.std.specs.Prelude.{◌≡◌, ℕ, ◌<◌}
 use Rattle.wz_types.specs.declared.types.ValType.{ValType}
 use Rattle.wz_types.specs.declared.types.ValType.TheVariants as valtype

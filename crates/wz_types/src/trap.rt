@@ -1,4 +1,4 @@
-/// Why a computation was aborted (Core Specification 2.0, section 4.2.1, with the causes of chapter 4).
+/// Why a computation was aborted (Core Specification 2.0, section 4.2.2, with the causes of chapter 4).
 #[derive(Clone, Copy, Debug, PartialEq, Eq)]
 pub enum TrapKind {
     Unreachable,

@@ -1,0 +1,10 @@
+pub mod AddLemmas
+pub mod ChoiceLemmas
+pub mod CoverLemmas
+pub mod FewLemmas
+pub mod FirstRunLemmas
+pub mod GapLemmas
+pub mod JoinLemmas
+pub mod PlaceLemmas
+pub mod PlanLemmas
+pub mod ScanLemmas

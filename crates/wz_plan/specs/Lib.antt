@@ -1,0 +1,5 @@
+pub mod Collected
+pub mod Laws
+pub mod Plan
+pub mod Ranges
+pub mod Scanned

@@ -1,0 +1,12 @@
+pub mod Outcome
+pub mod Words
+pub mod Devices
+pub mod FirstGrammar
+pub mod FirstReading
+pub mod FirstItems
+pub mod FirstViews
+pub mod FirstRun
+pub mod FirstRunViews
+pub mod FirstWriter
+pub mod Verdict
+pub mod Asked

@@ -1,0 +1,13 @@
+-- The exit status of each outcome. The statuses are this tool's own.
+use Rattle.std.specs.Prelude.{ℕ}
+use Rattle.wz_top.specs.declared.outcome.Outcome.{Outcome}
+use Rattle.wz_top.specs.declared.outcome.Outcome.TheVariants.{Done, NotYet, Exports, InputFault, InputTooLong, OutputFault, NoMemory}
+
+abbrev pub status : Outcome → ℕ
+status (Done report) = 0
+status NotYet = 1
+status (Exports fault) = 1
+status InputFault = 3
+status InputTooLong = 3
+status OutputFault = 3
+status NoMemory = 4

@@ -1,0 +1,28 @@
+//! Making the output and writing it.
+
+ghost use Rattle.std.specs.Prelude.{◌≡◌, OnOk, IsErrOf};
+ghost use Rattle.wz_io.specs.World.{World, HasFailed, name_of};
+ghost use Rattle.wz_io.specs.declared.files.Side.TheVariants.{Output};
+ghost use Rattle.wz_top.specs.Devices.{HasWritten, HoldsPrefix};
+
+use wz_io::{FileName, Files, OpenFault};
+
+/// Makes the output of that name, writes all the bytes and closes it.
+pub fn deliver<F: Files>(files: &mut F, name: FileName<'_>, bytes: &[u8]) -> Result<(), OpenFault>
+    ensures done { OnOk result (HasWritten (name_of name.entry) bytes.now (F.world files.old) (F.world files.new)) }
+    ensures failed { IsErrOf result OpenFault.Failed → HasFailed Output (name_of name.entry) (F.world files.old) (F.world files.new) }
+    ensures prefix { HoldsPrefix (name_of name.entry) bytes.now (F.world files.old) (F.world files.new) }
+{
+    files.create(name)?;
+    let mut at = 0;
+    while at < bytes.len() {
+        let Ok(count) = files.write(&bytes[at..]) else {
+            return Err(OpenFault::Failed);
+        };
+        at += count;
+    }
+    match files.close() {
+        Ok(()) => Ok(()),
+        Err(_) => Err(OpenFault::Failed),
+    }
+}

@@ -1,0 +1,28 @@
+//! The whole tool as one call: `wizer` takes the words of the command line, the files and a sink
+//! for messages, and answers how the run ended.
+//!
+//! Its contract is the product's promise: which answer comes when, what is written, and what
+//! stays. `Asks` says what words and input ask for, step by step in the order of the run; the
+//! clauses of `wizer` say that this is what is answered and written, but for a device that failed
+//! and for want of memory.
+#![tactic(auto)]
+
+mod deliver;
+mod fetch;
+mod first_grammar;
+mod first_module;
+mod first_reader;
+mod first_rules;
+mod first_run;
+mod first_vector;
+mod first_writer;
+pub mod laws;
+mod outcome;
+#[cfg(test)]
+mod tests;
+mod top;
+mod turn;
+mod words;
+
+pub use outcome::{ExportFault, Outcome, Report};
+pub use top::wizer;
