@@ -1,0 +1,15 @@
+pub mod RowLemmas
+pub mod TypeLaws
+pub mod OperandLaws
+pub mod GroupLaws
+pub mod PrefixedLaws
+pub mod InstrLaws
+pub mod SymbolLaws
+pub mod ReadsLemmas
+pub mod CodeLaws
+pub mod EntryLaws
+pub mod ItemLemmas
+pub mod PoolLemmas
+pub mod StepLemmas
+pub mod LoopLemmas
+pub mod LocalsLemmas

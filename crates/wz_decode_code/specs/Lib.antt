@@ -1,0 +1,10 @@
+pub mod Types
+pub mod Instructions
+pub mod Code
+pub mod Entry
+pub mod InstrReading
+pub mod Tokens
+pub mod Reading
+pub mod Opened
+pub mod Pools
+pub mod Laws
