@@ -50,15 +50,26 @@ fn node(opened: Open, inner: u32) -> Instr
 }
 
 /// Begins a block, and gives its number.
-fn enter(builder: &mut BodyBuilder, opens: &mut Vec<Open>, opened: Open) -> Result<u32, CodeFault>
+fn enter(
+    builder: &mut BodyBuilder,
+    opens: &mut Vec<Open>,
+    kind: Kind,
+    shape: Shape,
+    parent: u32,
+) -> Result<u32, CodeFault>
     requires { length builder.old.blocks < 2 ^ 32 - 1 }
     ensures number { IfOk result (λ n. n ≡ length builder.old.blocks) }
     ensures added { OnOk result (builder.new ≡ with_block builder.old) }
-    ensures opens { OnOk result (opens.new.items ≡ opens.old.items ++ opened ∷ []) }
+    ensures opens { OnOk result
+        (opens.new.items ≡ opens.old.items ++ record { kind = kind; shape = shape; parent = parent } ∷ []) }
     ensures not_bad { IsErrOf result Bad → ⊥ }
 {
     let inner = builder.add_block()?;
-    opens.push(opened)?;
+    opens.push(Open {
+        kind,
+        shape,
+        parent,
+    })?;
     Ok(inner)
 }
 
@@ -86,39 +97,15 @@ pub(crate) fn step(
             Ok(Some(here))
         }
         Token::Block(shape) => {
-            let inner = enter(
-                builder,
-                opens,
-                Open {
-                    kind: Kind::Block,
-                    shape,
-                    parent: here,
-                },
-            )?;
+            let inner = enter(builder, opens, Kind::Block, shape, here)?;
             Ok(Some(inner))
         }
         Token::Loop(shape) => {
-            let inner = enter(
-                builder,
-                opens,
-                Open {
-                    kind: Kind::Loop,
-                    shape,
-                    parent: here,
-                },
-            )?;
+            let inner = enter(builder, opens, Kind::Loop, shape, here)?;
             Ok(Some(inner))
         }
         Token::If(shape) => {
-            let inner = enter(
-                builder,
-                opens,
-                Open {
-                    kind: Kind::First,
-                    shape,
-                    parent: here,
-                },
-            )?;
+            let inner = enter(builder, opens, Kind::First, shape, here)?;
             Ok(Some(inner))
         }
         Token::Else => {
@@ -128,12 +115,8 @@ pub(crate) fn step(
             let Kind::First = first.kind else {
                 return Err(CodeFault::Bad);
             };
-            let second = Open {
-                kind: Kind::Second(here),
-                shape: first.shape,
-                parent: first.parent,
-            };
-            let inner = enter(builder, opens, second)?;
+            let kind = Kind::Second(here);
+            let inner = enter(builder, opens, kind, first.shape, first.parent)?;
             Ok(Some(inner))
         }
         Token::End => {
