@@ -1,3 +1,5 @@
+//! Lists that are copied, and values beside their types.
+
 use crate::function_type::FuncType;
 use crate::text::Text;
 use crate::types::{RefKind, ValType};
