@@ -5,7 +5,6 @@ ghost use Rattle.wz_types.specs.Laws.{SameType, SameKind, SameTypes, SameFunctio
 ghost use Rattle.wz_types.specs.Laws.{FitsExactly, AllFitHaveTypes, ZeroFits, ZerosFit};
 
 /// The tests by which definitions decide whether two types are one are equality.
-#[tactic(auto, using(crate::proofs::SameTypeLemmas::same_type_law, crate::proofs::SameTypeLemmas::same_kind_law, crate::proofs::SameTypeLemmas::same_types_law, crate::proofs::SameTypeLemmas::same_function_type_law))]
 pub fn same_types_are_equal()
     ensures type_ { SameType }
     ensures kind { SameKind }
@@ -15,14 +14,12 @@ pub fn same_types_are_equal()
 
 /// A value fits a type exactly where it has that type, a number's bits are those of its width, and the
 /// function that a reference names is there. So an i32 of 2^32 is none.
-#[tactic(auto, using(crate::proofs::FitsLemmas::fits_exactly, crate::proofs::FitsLemmas::all_fit_have_types))]
 pub fn what_fits()
     ensures exactly { FitsExactly }
     ensures all { AllFitHaveTypes }
 {}
 
 /// The default value of a type fits it.
-#[tactic(auto, using(crate::proofs::FitsLemmas::zero_fits, crate::proofs::FitsLemmas::zeros_fit))]
 pub fn default_values_fit()
     ensures one { ZeroFits }
     ensures all { ZerosFit }
