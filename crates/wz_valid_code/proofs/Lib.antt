@@ -2,7 +2,6 @@ pub mod BlockLemmas
 pub mod BuildLemmas
 pub mod ChooseLemmas
 pub mod LawLemmas
-pub mod OuterLemmas
 pub mod RunLemmas
 pub mod StackLemmas
 pub mod TakeLemmas

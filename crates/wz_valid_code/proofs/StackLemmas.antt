@@ -2,10 +2,12 @@ use Rattle.std.proofs.Common.{◌≡◌, ◌≤◌, ℕ, List, [], ◌∷◌, Op
 use Rattle.std.proofs.lemmas.Bool.{eqb-true, eq-eqb}
 use Rattle.std.proofs.lemmas.List.{length-reverse}
 use Rattle.wz_types.specs.declared.types.ValType.{ValType}
-use Rattle.wz_types.specs.declared.types.ValType.TheVariants.{I32, I64, F32, F64, FuncRef, ExternRef}
-use Rattle.wz_valid_code.specs.Operands.{Operand, Operands, same, fits, is_number, is_reference, Takes, pushed, Becomes}
+use Rattle.wz_types.specs.declared.types.ValType.TheVariants.{I32}
+use Rattle.wz_types.specs.SameType.{same_type}
+use Rattle.wz_types.proofs.SameTypeLemmas.{same_type-itself, same_type-true}
+use Rattle.wz_valid_code.specs.Operands.{Operand, Operands, fits, is_numeric, is_reference, Takes, pushed, Becomes}
 use Rattle.wz_valid_code.specs.Rules.{TakesEach, AllLong, OneLength, Rule, Exchange, Stop, Choose, DropOne, SelectOne, TestReference, NoRule, Leads}
-use Rattle.wz_valid_code.specs.Checking.{Known, taken, Popped, Got, Gone, popped, after, left_with, then_give, then_stop, then_choose, each_taken, is_taken, then_drop, then_test, join, if_number, then_join, then_second, then_select}
+use Rattle.wz_valid_code.specs.Checking.{Known, taken, Popped, Got, Gone, popped, after_rule, left_with, then_give, then_stop, then_choose, each_taken, is_taken, then_drop, then_test, join, if_number, then_join, then_second, then_select}
 
 -- what may stand at a place of the relation's stack: where `least`, `any` alone stands for an unknown type
 abbrev pub Place : Operand → Bool → Operand → Type 0
@@ -38,8 +40,8 @@ taken-complete least (a ∷ ts) (k ∷ ks) dead [] below h t = absurd h
 taken-complete least (a ∷ ts) (None ∷ ks) dead (q ∷ s) below h t = taken-complete least ts ks dead s below h.1 t.1
 taken-complete least (a ∷ ts) (Some b ∷ ks) dead (q ∷ s) below h t =
     let r = taken-complete least ts ks dead s below h.1 t.1 in
-    let ok : IsTrue (same b a) = (let P : Operand → Type 0 = λ x. IsTrue (fits x a) in subst P h.0 t.0) in
-    (r.0, if-true (same b a) (taken ts ks dead) None ok ∙ r.1, r.2)
+    let ok : IsTrue (same_type b a) = (let P : Operand → Type 0 = λ x. IsTrue (fits x a) in subst P h.0 t.0) in
+    (r.0, if-true (same_type b a) (taken ts ks dead) None ok ∙ r.1, r.2)
 
 if-some : {X : Type 0} (b : Bool) (x : Option X) (y : X) → (if b then x else None) ≡ Some y → IsTrue b × (x ≡ Some y)
 if-some true x y e = (refl, e)
@@ -65,7 +67,7 @@ taken-sound least (a ∷ ts) (None ∷ ks) left dead below e h =
     let r = taken-sound least ts ks left dead below e h in
     (None ∷ r.0, (place-any least, r.1), (refl, r.2))
 taken-sound least (a ∷ ts) (Some b ∷ ks) left dead below e h =
-    let p = if-some (same b a) (taken ts ks dead) left e in
+    let p = if-some (same_type b a) (taken ts ks dead) left e in
     let r = taken-sound least ts ks left dead below p.1 h in
     (Some b ∷ r.0, (refl, r.1), (p.0, r.2))
 
@@ -105,7 +107,7 @@ fill-taken (t ∷ ts) [] left true more e h = anys-more (t ∷ ts) more h
 fill-taken (t ∷ ts) [] left false more e h = absurd (cc)
 fill-taken (t ∷ ts) (None ∷ ks) left dead more e h = let r = fill-taken ts ks left dead more e (omega arith) in (r.0, (refl, r.1))
 fill-taken (t ∷ ts) (Some b ∷ ks) left dead more e h =
-    let p = if-some (same b t) (taken ts ks dead) left e in
+    let p = if-some (same_type b t) (taken ts ks dead) left e in
     let r = fill-taken ts ks left dead more p.1 (omega arith) in
     (r.0, (p.0, r.1))
 
@@ -163,47 +165,30 @@ each-sound n (l ∷ ls) ks dead more e h =
     ((fill-taken (reverse l) ks left.0 dead more left.1 fit, rest.0), (long, rest.1))
 
 -- select
-same-itself : (a : ValType) → IsTrue (same a a)
-same-itself I32 = refl
-same-itself I64 = refl
-same-itself F32 = refl
-same-itself F64 = refl
-same-itself FuncRef = refl
-same-itself ExternRef = refl
-
-pub same-true : (a b : ValType) → IsTrue (same a b) → a ≡ b
-same-true I32 I32 h = refl
-same-true I64 I64 h = refl
-same-true F32 F32 h = refl
-same-true F64 F64 h = refl
-same-true FuncRef FuncRef h = refl
-same-true ExternRef ExternRef h = refl
-same-true a b h = cc
-
 becomes-itself : (q : Operand) → Becomes q q
 becomes-itself None = tt
 becomes-itself (Some t) = refl
 
-join-complete : (k l q r t : Operand) → Place k false q → Place l false r → Becomes q t → Becomes r t → IsTrue (is_number t) → (j : Operand) × (join k l ≡ Some j) × Place j false t × IsTrue (is_number j)
+join-complete : (k l q r t : Operand) → Place k false q → Place l false r → Becomes q t → Becomes r t → IsTrue (is_numeric t) → (j : Operand) × (join k l ≡ Some j) × Place j false t × IsTrue (is_numeric j)
 join-complete None None q r t hk hl gq gr ok = (None, refl, tt, refl)
 join-complete None (Some b) q r t hk hl gq gr ok =
     let P : Operand → Type 0 = λ x. Becomes x t in
     let is : t ≡ Some b = subst P hl gr in
-    let Q : Operand → Type 0 = λ x. IsTrue (is_number x) in
+    let Q : Operand → Type 0 = λ x. IsTrue (is_numeric x) in
     (Some b, refl, is, subst Q is ok)
 join-complete (Some a) None q r t hk hl gq gr ok =
     let P : Operand → Type 0 = λ x. Becomes x t in
     let is : t ≡ Some a = subst P hk gq in
-    let Q : Operand → Type 0 = λ x. IsTrue (is_number x) in
+    let Q : Operand → Type 0 = λ x. IsTrue (is_numeric x) in
     (Some a, refl, is, subst Q is ok)
 join-complete (Some a) (Some b) q r t hk hl gq gr ok =
     let P : Operand → Type 0 = λ x. Becomes x t in
     let is : t ≡ Some a = subst P hk gq in
     let also : t ≡ Some b = subst P hl gr in
-    let Q : Operand → Type 0 = λ x. IsTrue (is_number x) in
+    let Q : Operand → Type 0 = λ x. IsTrue (is_numeric x) in
     let one : a ≡ b = cc in
-    let eq : IsTrue (same a b) = (let R : ValType → Type 0 = λ x. IsTrue (same a x) in subst R one (same-itself a)) in
-    (Some a, if-true (same a b) (Some (Some a)) None eq, is, subst Q is ok)
+    let eq : IsTrue (same_type a b) = (let R : ValType → Type 0 = λ x. IsTrue (same_type a x) in subst R one (same_type-itself a)) in
+    (Some a, if-true (same_type a b) (Some (Some a)) None eq, is, subst Q is ok)
 
 join-sound : (k l j : Operand) → join k l ≡ Some j → Becomes k j × Becomes l j
 join-sound None l j e =
@@ -212,8 +197,8 @@ join-sound None l j e =
     (tt, subst P is (becomes-itself l))
 join-sound (Some a) None j e = let is : j ≡ Some a = cc in (is, tt)
 join-sound (Some a) (Some b) j e =
-    let p = if-some (same a b) (Some (Some a)) j e in
-    let one : a ≡ b = same-true a b p.0 in
+    let p = if-some (same_type a b) (Some (Some a)) j e in
+    let one : a ≡ b = same_type-true a b p.0 in
     let is : j ≡ Some a = cc in
     let also : j ≡ Some b = cc in
     (is, also)
@@ -249,33 +234,33 @@ test-back dead (Got k left) new e =
     let p = if-some (is_reference k) (left_with (Some I32 ∷ left) dead) new e in
     (k, left, refl, p.0, cc)
 
-number-back : (s : Operands) (dead : Bool) (o : Option Operand) (new : Known) → if_number s dead o ≡ Some new → (j : Operand) × (o ≡ Some j) × IsTrue (is_number j) × (new ≡ record { items = j ∷ s; dead = dead })
+number-back : (s : Operands) (dead : Bool) (o : Option Operand) (new : Known) → if_number s dead o ≡ Some new → (j : Operand) × (o ≡ Some j) × IsTrue (is_numeric j) × (new ≡ record { items = j ∷ s; dead = dead })
 number-back s dead None new e = absurd (cc)
 number-back s dead (Some j) new e =
-    let p = if-some (is_number j) (left_with (j ∷ s) dead) new e in
+    let p = if-some (is_numeric j) (left_with (j ∷ s) dead) new e in
     (j, refl, p.0, cc)
 
 -- a rule: the checker finds each stack that it leads to ..
-pub after-complete : (rule : Rule) (ks : Operands) (dead : Bool) (s m : Operands) → Stands false ks dead s → Leads rule s m → (new : Known) × (after rule ks dead ≡ Some new) × Stands false new.items new.dead m
-after-complete (Exchange takes gives) ks dead s m h l =
+pub after_rule-complete : (rule : Rule) (ks : Operands) (dead : Bool) (s m : Operands) → Stands false ks dead s → Leads rule s m → (new : Known) × (after_rule rule ks dead ≡ Some new) × Stands false new.items new.dead m
+after_rule-complete (Exchange takes gives) ks dead s m h l =
     let r = taken-complete false (reverse takes) ks dead s l.0 h l.1 in
     let P : Operands → Type 0 = λ x. Stands false (pushed gives r.0) dead x in
     (record { items = pushed gives r.0; dead = dead }, ap (then_give gives dead) r.1, subst P (sym l.2) (pushed-stands false gives r.0 dead l.0 r.2))
-after-complete (Stop takes) ks dead s m h l =
+after_rule-complete (Stop takes) ks dead s m h l =
     let r = taken-complete false (reverse takes) ks dead s l.0 h l.1 in
     (record { items = []; dead = true }, ap then_stop r.1, tt)
-after-complete (Choose ls) ks dead s m h l =
+after_rule-complete (Choose ls) ks dead s m h l =
     let r = taken-complete false (I32 ∷ []) ks dead s l.0 h l.1 in
     (record { items = []; dead = true }, ap (then_choose ls dead) r.1 ∙ picked ls r.0 dead l.0 r.2 l.2 l.3, tt)
   where
     picked : (ls : List (List ValType)) (ks : Operands) (dead : Bool) (s : Operands) → Stands false ks dead s → TakesEach ls s → OneLength ls → then_choose ls dead (Some ks) ≡ Some (record { items = []; dead = true })
     picked [] ks dead s h t even = refl
     picked (l ∷ ls) ks dead s h t even = if-true (each_taken (length l) (l ∷ ls) ks dead) (Some (record { items = []; dead = true })) None (each-complete (length l) (l ∷ ls) ks dead s h t (refl, even))
-after-complete DropOne ks dead s m h l =
+after_rule-complete DropOne ks dead s m h l =
     let P : Operands → Type 0 = λ x. Stands false ks dead x in
     let r = popped-complete false ks dead l.0 m (subst P l.1 h) in
     (record { items = r.1; dead = dead }, ap (then_drop dead) r.2, r.4)
-after-complete SelectOne ks dead s m h (c, q, r, t, below, s_is, fit, gq, gr, ok, m_is) =
+after_rule-complete SelectOne ks dead s m h (c, q, r, t, below, s_is, fit, gq, gr, ok, m_is) =
     let P : Operands → Type 0 = λ x. Stands false ks dead x in
     let one = taken-complete false (I32 ∷ []) ks dead (c ∷ q ∷ r ∷ below) (q ∷ r ∷ below) (subst P s_is h) (fit, refl) in
     let two = popped-complete false one.0 dead q (r ∷ below) one.2 in
@@ -283,10 +268,10 @@ after-complete SelectOne ks dead s m h (c, q, r, t, below, s_is, fit, gq, gr, ok
     let j = join-complete two.0 three.0 q r t two.3 three.3 gq gr ok in
     let Q : Operands → Type 0 = λ x. Stands false (j.0 ∷ three.1) dead x in (
       record { items = j.0 ∷ three.1; dead = dead },
-      ap (then_select dead) one.1 ∙ ap (then_second dead) two.2 ∙ ap (then_join dead two.0) three.2 ∙ ap (if_number three.1 dead) j.1 ∙ if-true (is_number j.0) (left_with (j.0 ∷ three.1) dead) None j.3,
+      ap (then_select dead) one.1 ∙ ap (then_second dead) two.2 ∙ ap (then_join dead two.0) three.2 ∙ ap (if_number three.1 dead) j.1 ∙ if-true (is_numeric j.0) (left_with (j.0 ∷ three.1) dead) None j.3,
       subst Q (sym m_is) (j.2, three.4),
     )
-after-complete TestReference ks dead s m h (q, below, s_is, ok, m_is) =
+after_rule-complete TestReference ks dead s m h (q, below, s_is, ok, m_is) =
     let P : Operands → Type 0 = λ x. Stands false ks dead x in
     let r = popped-complete false ks dead q below (subst P s_is h) in
     let Q : Operands → Type 0 = λ x. Stands false (Some I32 ∷ r.1) dead x in (
@@ -298,30 +283,30 @@ after-complete TestReference ks dead s m h (q, below, s_is, ok, m_is) =
     place-reference : (k q : Operand) → Place k false q → IsTrue (is_reference q) → IsTrue (is_reference k)
     place-reference None q h ok = refl
     place-reference (Some t) q h ok = let R : Operand → Type 0 = λ x. IsTrue (is_reference x) in subst R h ok
-after-complete NoRule ks dead s m h l = absurd l
+after_rule-complete NoRule ks dead s m h l = absurd l
 
 -- .. and each stack that it gives is led to
-pub after-sound : (rule : Rule) (ks : Operands) (dead : Bool) (new : Known) (m : Operands) → after rule ks dead ≡ Some new → Stands true new.items new.dead m → (s : Operands) × Stands true ks dead s × Leads rule s m
-after-sound (Exchange takes gives) ks dead new m e h =
+pub after_rule-sound : (rule : Rule) (ks : Operands) (dead : Bool) (new : Known) (m : Operands) → after_rule rule ks dead ≡ Some new → Stands true new.items new.dead m → (s : Operands) × Stands true ks dead s × Leads rule s m
+after_rule-sound (Exchange takes gives) ks dead new m e h =
     let b = give-back gives dead (taken (reverse takes) ks dead) new e in
     let P : Known → Type 0 = λ x. Stands true x.items x.dead m in
     let under = pushed-under true gives b.0 dead m (subst P b.2 h) in
     let r = taken-sound true (reverse takes) ks b.0 dead under.0 b.1 under.2 in
     (r.0, r.1, (under.0, r.2, under.1))
-after-sound (Stop takes) ks dead new m e h =
+after_rule-sound (Stop takes) ks dead new m e h =
     let b = stop-back (taken (reverse takes) ks dead) new e in
     let r = taken-sound true (reverse takes) ks b.0 dead (fill b.0 dead []) b.1 (fill-stands true b.0 dead []) in
     (r.0, r.1, (fill b.0 dead [], r.2))
-after-sound (Choose ls) ks dead new m e h =
+after_rule-sound (Choose ls) ks dead new m e h =
     let b = choose-back ls dead (taken (I32 ∷ []) ks dead) new e in
     let below : Operands = fill b.0 dead b.2.0 in
     let r = taken-sound true (I32 ∷ []) ks b.0 dead below b.1 (fill-stands true b.0 dead b.2.0) in
     (r.0, r.1, (below, r.2, b.2.1, b.2.2))
-after-sound DropOne ks dead new m e h =
+after_rule-sound DropOne ks dead new m e h =
     let b = drop-back dead (popped ks dead) new e in
     let P : Known → Type 0 = λ x. Stands true x.items x.dead m in
     (b.0 ∷ m, popped-sound true ks dead b.0 b.1 m b.2 (subst P b.3 h), (b.0, refl))
-after-sound SelectOne ks dead new m e h = selected (taken (I32 ∷ []) ks dead) refl e
+after_rule-sound SelectOne ks dead new m e h = selected (taken (I32 ∷ []) ks dead) refl e
   where
     third : (q : Operand) (o : Popped) → then_join dead q o ≡ Some new → (k : Operand) × (left : Operands) × (o ≡ Got k left) × (if_number left dead (join q k) ≡ Some new)
     third q Gone e = absurd (cc)
@@ -348,10 +333,10 @@ after-sound SelectOne ks dead new m e h = selected (taken (I32 ∷ []) ks dead) 
         let c = taken-sound true (I32 ∷ []) ks one dead (two.0 ∷ three.0 ∷ end.0) is q in
         shown c.0 (two.0) (three.0) (j.0) end.0 c.1 c.2 (join-sound two.0 three.0 j.0 j.1) j.2 end.1
       where
-        shown : (s : Operands) (q r t : Operand) (below : Operands) → Stands true ks dead s → Takes (I32 ∷ []) s (q ∷ r ∷ below) → Becomes q t × Becomes r t → IsTrue (is_number t) → m ≡ t ∷ below → (s : Operands) × Stands true ks dead s × Leads SelectOne s m
+        shown : (s : Operands) (q r t : Operand) (below : Operands) → Stands true ks dead s → Takes (I32 ∷ []) s (q ∷ r ∷ below) → Becomes q t × Becomes r t → IsTrue (is_numeric t) → m ≡ t ∷ below → (s : Operands) × Stands true ks dead s × Leads SelectOne s m
         shown [] q r t below h f g ok e = absurd f
         shown (c ∷ s) q r t below h f g ok e = (c ∷ s, h, (c, q, r, t, below, ap (λ x. c ∷ x) f.1, f.0, g.0, g.1, ok, e))
-after-sound TestReference ks dead new m e h =
+after_rule-sound TestReference ks dead new m e h =
     let b = test-back dead (popped ks dead) new e in
     let P : Known → Type 0 = λ x. Stands true x.items x.dead m in
     let end = tested b.1 m (subst P b.4 h) in
@@ -360,4 +345,4 @@ after-sound TestReference ks dead new m e h =
     tested : (left m : Operands) → Stands true (Some I32 ∷ left) dead m → (below : Operands) × (m ≡ Some I32 ∷ below) × Stands true left dead below
     tested left [] h = absurd h
     tested left (q ∷ below) h = (below, ap (λ x. x ∷ below) h.0, h.1)
-after-sound NoRule ks dead new m e h = absurd (cc)
+after_rule-sound NoRule ks dead new m e h = absurd (cc)

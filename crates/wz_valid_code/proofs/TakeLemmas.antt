@@ -2,7 +2,8 @@ use Rattle.std.proofs.Common.{◌≡◌, ◌≤◌, ◌<◌, ◌+◌, ◌-◌, �
 use Rattle.std.proofs.lemmas.List.{take_more, reverse-append}
 use Rattle.wz_types.specs.declared.types.ValType.{ValType}
 use Rattle.wz_types.specs.declared.types.ValType.TheVariants.{I32}
-use Rattle.wz_valid_code.specs.Operands.{Operand, Operands, same, fits}
+use Rattle.wz_types.specs.SameType.{same_type}
+use Rattle.wz_valid_code.specs.Operands.{Operand, Operands, fits}
 use Rattle.wz_valid_code.specs.Checking.{taken, is_taken}
 
 abbrev pub then_take : List ValType → Bool → Option Operands → Option Operands
@@ -21,7 +22,7 @@ pub taken-head : (t : ValType) (ts : List ValType) (ks : Operands) (dead : Bool)
 taken-head t ts [] true = sym (taken-dead ts)
 taken-head t ts [] false = refl
 taken-head t ts (None ∷ ks) dead = refl
-taken-head t ts (Some b ∷ ks) dead = head-by (same b t) ts ks dead
+taken-head t ts (Some b ∷ ks) dead = head-by (same_type b t) ts ks dead
 
 pub reverse-take : {X : Type 0} (ts : List X) (left : ℕ) (d : X) → 0 < left → left ≤ length ts → reverse (take left ts) ≡ get_or ts (left - 1) d ∷ reverse (take (left - 1) ts)
 reverse-take ts left d some within =

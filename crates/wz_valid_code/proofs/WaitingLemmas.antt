@@ -13,7 +13,7 @@ use Rattle.wz_valid_code.specs.Rules.{Lead}
 use Rattle.wz_valid_code.specs.Context.{Scope, Labels}
 use Rattle.wz_valid_code.specs.Typing.{IsTyped}
 use Rattle.wz_valid_code.specs.Blocks.{outer_rules, Inner, inner_of, inner_in, IsInnerTyped, AllTyped, arm_at}
-use Rattle.wz_valid_code.specs.Waiting.{Pending, inner_at, labels_in, IsLed, AllDeep, Grown, Rises}
+use Rattle.wz_valid_code.specs.Waiting.{Pending, inner_at, labels_in, IsLed, AllDeep, Grown, DepthsRise}
 use Rattle.wz_valid_code.proofs.BlockLemmas.{AllTyped-append, AllTyped-parts, total-append, flat-typed, typed-flat, inner-total, size, total}
 
 -- the code of an arm
@@ -59,20 +59,20 @@ grown-turn scope labels a b c done i g h =
     subst P (ap (λ x. inner_in scope (reverse labels) done ++ x) (sym (append-none (inner_of scope (reverse labels) i))) ∙ sym (inner_in-append scope (reverse labels) done (i ∷ [])))
     (grown-append labels a b c (inner_in scope (reverse labels) done) (inner_of scope (reverse labels) i) g h)
 
-pub rises-within : (low : ℕ) (ws : List Pending) (high : ℕ) → Rises low ws high → low ≤ high
+pub rises-within : (low : ℕ) (ws : List Pending) (high : ℕ) → DepthsRise low ws high → low ≤ high
 rises-within low [] high h = h
 rises-within low (w ∷ ws) high h = let more = rises-within w.depth ws high h.1 in omega (arith, h.0, more)
 
 -- the last one apart
-pub rises-last : (low : ℕ) (ws : List Pending) (w : Pending) (high : ℕ) → Rises low (ws ++ w ∷ []) high → Rises low ws w.depth × (w.depth ≤ high)
+pub rises-last : (low : ℕ) (ws : List Pending) (w : Pending) (high : ℕ) → DepthsRise low (ws ++ w ∷ []) high → DepthsRise low ws w.depth × (w.depth ≤ high)
 rises-last low [] w high h = h
 rises-last low (v ∷ ws) w high h = let r = rises-last v.depth ws w high h.1 in ((h.0, r.0), r.1)
 
-rises-deep : (low : ℕ) (ws : List Pending) (high : ℕ) → low ≤ high → AllDeep high ws → Rises low ws high
+rises-deep : (low : ℕ) (ws : List Pending) (high : ℕ) → low ≤ high → AllDeep high ws → DepthsRise low ws high
 rises-deep low [] high le d = le
 rises-deep low (w ∷ ws) high le d = (omega (arith, d.0), rises-deep w.depth ws high (omega (arith, d.0)) d.1)
 
-pub rises-more : (low : ℕ) (ws : List Pending) (mid : ℕ) (added : List Pending) (high : ℕ) → Rises low ws mid → mid ≤ high → AllDeep high added → Rises low (ws ++ added) high
+pub rises-more : (low : ℕ) (ws : List Pending) (mid : ℕ) (added : List Pending) (high : ℕ) → DepthsRise low ws mid → mid ≤ high → AllDeep high added → DepthsRise low (ws ++ added) high
 rises-more low [] mid added high h le d = rises-deep low added high (omega (arith, h)) d
 rises-more low (w ∷ ws) mid added high h le d = (h.0, rises-more w.depth ws mid added high h.1 le d)
 
@@ -87,7 +87,7 @@ take-front labels d n l le within =
     front (x ∷ xs) (suc d) (suc n) h = ap (λ t. x ∷ t) (front xs d n (omega arith))
 
 -- a label at depth d in place of those from there on changes nothing for what waits no deeper
-pub pieces-same : (labels : List (List ValType)) (d : ℕ) (l : List ValType) (low : ℕ) (ws : List Pending) → d ≤ length labels → Rises low ws d → map (inner_at (take d labels ++ l ∷ [])) ws ≡ map (inner_at labels) ws
+pub pieces-same : (labels : List (List ValType)) (d : ℕ) (l : List ValType) (low : ℕ) (ws : List Pending) → d ≤ length labels → DepthsRise low ws d → map (inner_at (take d labels ++ l ∷ [])) ws ≡ map (inner_at labels) ws
 pieces-same labels d l low [] within h = refl
 pieces-same labels d l low (w ∷ ws) within h =
     let one = take-front labels d w.depth l (rises-within w.depth ws d h.1) within in
@@ -97,7 +97,7 @@ pieces-same labels d l low (w ∷ ws) within h =
 
 -- what waits is typed exactly where the body is
 pub record Waiting (scope : Scope) (body : BodyParts) (results : List ValType) (labels : List (List ValType)) (work : List Pending) : Type 0 where
-  pub rises : Rises 0 work (length labels)
+  pub rises : DepthsRise 0 work (length labels)
   pub complete : IsTyped scope (results ∷ []) (tree_of body 0) [] results → AllTyped scope (λ k. tree_of body k) (map (inner_at labels) work)
   pub sound : AllTyped scope (λ k. tree_of body k) (map (inner_at labels) work) → IsTyped scope (results ∷ []) (tree_of body 0) [] results
 
@@ -132,7 +132,7 @@ module _ (scope : Scope) (body : BodyParts) (law : TreeOfBlock) (rise : NamesRis
       (flat-typed scope (λ instr. leaf_in body instr) (λ k. tree_of body k) (reverse (labels_in labels w)) w.results (arm_at body.blocks w.block) (pushed w.before []) f h))
 
   -- the work after w is taken up, as pieces
-  grown-pieces : (ws new : List Pending) → Rises 0 ws w.depth → w.depth ≤ length labels → (g : Grown (labels_in labels w) ws new (inner_in scope (reverse (labels_in labels w)) (arm_at body.blocks w.block))) → map (inner_at (labels_in labels w)) new ≡ map (inner_at labels) ws ++ inner_in scope (reverse (labels_in labels w)) (arm_at body.blocks w.block)
+  grown-pieces : (ws new : List Pending) → DepthsRise 0 ws w.depth → w.depth ≤ length labels → (g : Grown (labels_in labels w) ws new (inner_in scope (reverse (labels_in labels w)) (arm_at body.blocks w.block))) → map (inner_at (labels_in labels w)) new ≡ map (inner_at labels) ws ++ inner_in scope (reverse (labels_in labels w)) (arm_at body.blocks w.block)
   grown-pieces ws new up within g =
       let old = pieces-same labels w.depth w.label 0 ws within up in
       ap (λ x. map (inner_at (labels_in labels w)) x) g.split ∙ map-append (inner_at (labels_in labels w)) ws g.added ∙ cc (old, g.inner)
@@ -143,7 +143,7 @@ module _ (scope : Scope) (body : BodyParts) (law : TreeOfBlock) (rise : NamesRis
       let made = grown-pieces ws new up.0 up.1 g in
       let P : List Inner → Type 0 = λ x. AllTyped scope (λ k. tree_of body k) x in
       let deeper = labels_in-length labels w up.1 in
-      let R : List Pending → Type 0 = λ x. Rises 0 x (length (labels_in labels w)) in
+      let R : List Pending → Type 0 = λ x. DepthsRise 0 x (length (labels_in labels w)) in
       record {
         rises = subst R (sym g.split) (rises-more 0 ws w.depth g.added (length (labels_in labels w)) up.0 (omega (arith, deeper)) g.deep);
         complete = λ t.

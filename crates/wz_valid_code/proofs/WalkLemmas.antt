@@ -3,8 +3,8 @@ use Rattle.std.proofs.Common.{◌≡◌, List, [], ◌∷◌, Some, None, Bool, 
 use Rattle.wz_types.specs.declared.types.ValType.{ValType}
 use Rattle.wz_valid_code.specs.Operands.{Operands, pushed}
 use Rattle.wz_valid_code.specs.Rules.{Rule, Lead}
-use Rattle.wz_valid_code.specs.Checking.{Known, taken, after}
-use Rattle.wz_valid_code.proofs.StackLemmas.{Stands, after-complete, after-sound, taken-complete, taken-sound, pushed-stands, pushed-under}
+use Rattle.wz_valid_code.specs.Checking.{Known, taken, after_rule}
+use Rattle.wz_valid_code.proofs.StackLemmas.{Stands, after_rule-complete, after_rule-sound, taken-complete, taken-sound, pushed-stands, pushed-under}
 
 -- from some stack that the checker's stands for, the rest leads to the results
 abbrev pub Can : Bool → Known → List Rule → List ValType → Type 0
@@ -24,23 +24,23 @@ walk-start whole before results = record {
   sound = λ can. (let P : Operands → Type 0 = λ x. Lead whole x results in subst P (start-is before can.0 can.1) can.2);
 }
 
-pub walk-step : (whole : List Rule) (rule : Rule) (rules : List Rule) (start : Operands) (results : List ValType) (k new : Known) → Walked whole (rule ∷ rules) start results k → after rule k.items k.dead ≡ Some new → Walked whole rules start results new
+pub walk-step : (whole : List Rule) (rule : Rule) (rules : List Rule) (start : Operands) (results : List ValType) (k new : Known) → Walked whole (rule ∷ rules) start results k → after_rule rule k.items k.dead ≡ Some new → Walked whole rules start results new
 walk-step whole rule rules start results k new w e = record {
   complete = λ f.
       let can = w.complete f in
-      let r = after-complete rule k.items k.dead can.0 can.2.0 can.1 can.2.1 in
+      let r = after_rule-complete rule k.items k.dead can.0 can.2.0 can.1 can.2.1 in
       let one : r.0 ≡ new = cc (r.1, e) in
       let P : Known → Type 0 = λ x. Stands false x.items x.dead can.2.0 in
       (can.2.0, subst P one r.2, can.2.2);
   sound = λ can.
-      let r = after-sound rule k.items k.dead new can.0 e can.1 in
+      let r = after_rule-sound rule k.items k.dead new can.0 e can.1 in
       w.sound (r.0, r.1, (can.0, r.2, can.2));
 }
 
-pub walk-stuck : (whole : List Rule) (rule : Rule) (rules : List Rule) (start : Operands) (results : List ValType) (k : Known) → Walked whole (rule ∷ rules) start results k → after rule k.items k.dead ≡ None → Lead whole start results → ⊥
+pub walk-stuck : (whole : List Rule) (rule : Rule) (rules : List Rule) (start : Operands) (results : List ValType) (k : Known) → Walked whole (rule ∷ rules) start results k → after_rule rule k.items k.dead ≡ None → Lead whole start results → ⊥
 walk-stuck whole rule rules start results k w e f =
     let can = w.complete f in
-    let r = after-complete rule k.items k.dead can.0 can.2.0 can.1 can.2.1 in
+    let r = after_rule-complete rule k.items k.dead can.0 can.2.0 can.1 can.2.1 in
     cc (r.1, e)
 
 pub walk-ends : (whole : List Rule) (start : Operands) (results : List ValType) (k : Known) → Walked whole [] start results k → taken (reverse results) k.items k.dead ≡ Some [] → Lead whole start results

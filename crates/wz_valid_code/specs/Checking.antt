@@ -1,8 +1,9 @@
 -- The stack that the checker keeps, after the algorithm in the Core Specification's appendix (section 7.3): what a rule makes of it.
-use Rattle.std.specs.Prelude.{ℕ, List, [], ◌∷◌, Option, Some, None, Bool, true, false, slice_get, reverse, length, if◌then◌else◌, ◌==◌}
+use Rattle.std.specs.Prelude.{◌≡◌, ℕ, List, [], ◌∷◌, Option, Some, None, Bool, true, false, slice_get, reverse, length, if◌then◌else◌, ◌==◌}
 use Rattle.wz_types.specs.declared.types.ValType.{ValType}
 use Rattle.wz_types.specs.declared.types.ValType.TheVariants.{I32}
-use Rattle.wz_valid_code.specs.Operands.{Operand, Operands, same, fits, is_number, is_reference, pushed}
+use Rattle.wz_types.specs.SameType.{same_type}
+use Rattle.wz_valid_code.specs.Operands.{Operand, Operands, fits, is_numeric, is_reference, pushed}
 use Rattle.wz_valid_code.specs.Rules.{Rule, Exchange, Stop, Choose, DropOne, SelectOne, TestReference, NoRule}
 use Rattle.wz_valid_code.specs.Context.{Labels}
 
@@ -44,7 +45,8 @@ is_taken (Some stack) = true
 
 abbrev pub each_taken : ℕ → List (List ValType) → Operands → Bool → Bool
 each_taken n [] stack dead = true
-each_taken n (types ∷ lists) stack dead = if length types == n then (if is_taken (taken (reverse types) stack dead) then each_taken n lists stack dead else false) else false
+each_taken n (types ∷ lists) stack dead =
+    if length types == n then (if is_taken (taken (reverse types) stack dead) then each_taken n lists stack dead else false) else false
 
 abbrev pub offered_at : Option (List ValType) → ℕ → Operands → Bool → Bool → Bool
 offered_at None n stack dead others = false
@@ -72,11 +74,11 @@ then_test dead (Got found stack) = if is_reference found then left_with (Some I3
 abbrev pub join : Operand → Operand → Option Operand
 join None other = Some other
 join (Some type) None = Some (Some type)
-join (Some type) (Some other) = if same type other then Some (Some type) else None
+join (Some type) (Some other) = if same_type type other then Some (Some type) else None
 
 abbrev pub if_number : Operands → Bool → Option Operand → Option Known
 if_number stack dead None = None
-if_number stack dead (Some operand) = if is_number operand then left_with (operand ∷ stack) dead else None
+if_number stack dead (Some operand) = if is_numeric operand then left_with (operand ∷ stack) dead else None
 
 abbrev pub then_join : Bool → Operand → Popped → Option Known
 then_join dead second Gone = None
@@ -91,11 +93,15 @@ then_select dead None = None
 then_select dead (Some stack) = then_second dead (popped stack dead)
 
 -- what the checker's stack becomes, if the rule can be followed
-abbrev pub after : Rule → Operands → Bool → Option Known
-after (Exchange takes gives) stack dead = then_give gives dead (taken (reverse takes) stack dead)
-after (Stop takes) stack dead = then_stop (taken (reverse takes) stack dead)
-after (Choose lists) stack dead = then_choose lists dead (taken (I32 ∷ []) stack dead)
-after DropOne stack dead = then_drop dead (popped stack dead)
-after SelectOne stack dead = then_select dead (taken (I32 ∷ []) stack dead)
-after TestReference stack dead = then_test dead (popped stack dead)
-after NoRule stack dead = None
+abbrev pub after_rule : Rule → Operands → Bool → Option Known
+after_rule (Exchange takes gives) stack dead = then_give gives dead (taken (reverse takes) stack dead)
+after_rule (Stop takes) stack dead = then_stop (taken (reverse takes) stack dead)
+after_rule (Choose lists) stack dead = then_choose lists dead (taken (I32 ∷ []) stack dead)
+after_rule DropOne stack dead = then_drop dead (popped stack dead)
+after_rule SelectOne stack dead = then_select dead (taken (I32 ∷ []) stack dead)
+after_rule TestReference stack dead = then_test dead (popped stack dead)
+after_rule NoRule stack dead = None
+
+-- the checker followed the rule, and has the new stack; or the rule doesn't fit the stack
+abbrev pub Followed : Rule → Known → Known → Bool → Type 0
+Followed rule old new is_followed = after_rule rule old.items old.dead ≡ (if is_followed then Some new else None)

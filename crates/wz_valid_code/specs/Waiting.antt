@@ -33,9 +33,9 @@ pub record Grown (labels : List (List ValType)) (old new : List Pending) (made :
   pub deep : AllDeep (length labels) added
 
 -- their depths rise from `low` to at most `high`
-abbrev pub Rises : ℕ → List Pending → ℕ → Type 0
-Rises low [] high = low ≤ high
-Rises low (pending ∷ waiting) high = (low ≤ pending.depth) × Rises pending.depth waiting high
+abbrev pub DepthsRise : ℕ → List Pending → ℕ → Type 0
+DepthsRise low [] high = low ≤ high
+DepthsRise low (pending ∷ waiting) high = (low ≤ pending.depth) × DepthsRise pending.depth waiting high
 
 -- the labels within the block that is taken up
 abbrev pub labels_in : List (List ValType) → Pending → List (List ValType)

@@ -1,7 +1,8 @@
 //! Whether a body is typed (Core Specification 2.0, sections 3.3.9 and 3.4.1).
 
 ghost use Rattle.std.specs.Prelude.{◌≡◌, ◌∷◌, [], ◌<◌, ◌^◌, length, IfOk, OnOk, MatchBool, IsTrue, Err, reverse};
-ghost use Rattle.wz_code.specs.Trees.{leaf_in, tree_of};
+ghost use Rattle.wz_code.specs.declared.instr.Instr.{Instr};
+ghost use Rattle.wz_code.specs.Trees.{Leaf, leaf_in, tree_of};
 ghost use Rattle.wz_code.specs.BlockRule.{IsBody};
 ghost use Rattle.wz_valid_code.specs.Context.{HasTypes};
 ghost use Rattle.wz_valid_code.specs.Typing.{IsTyped, IsBodyTyped};
@@ -58,8 +59,13 @@ fn turn<'c>(
     stack: &mut Stack,
 ) -> Result<bool, AllocError>
     ensures within { IfOk result (λ _. labels.new.items ≡ labels_in labels.old.items next.now) }
-    ensures led { let led = IsLed scope.now (λ i. leaf_in body.now i) body.now.blocks labels.old.items next.now in IfOk result (λ ok. MatchBool ok led (led → ⊥)) }
-    ensures grown { IfOk result (λ ok. IsTrue ok → Grown (labels_in labels.old.items next.now) waiting.old.items waiting.new.items (inner_in scope.now (reverse (labels_in labels.old.items next.now)) (arm_at body.now.blocks next.now.block))) }
+    ensures led { let leaf : Instr → Leaf = λ i. leaf_in body.now i in
+        let led = IsLed scope.now leaf body.now.blocks labels.old.items next.now in
+        IfOk result (λ ok. MatchBool ok led (led → ⊥)) }
+    ensures grown { let inside = labels_in labels.old.items next.now in
+        let code = arm_at body.now.blocks next.now.block in
+        let named = inner_in scope.now (reverse inside) code in
+        IfOk result (λ ok. IsTrue ok → Grown inside waiting.old.items waiting.new.items named) }
 {
     enter(labels, next)?;
     let code = code_of(body, next.block);
@@ -80,9 +86,13 @@ fn turn<'c>(
 
 /// Takes up one block after another, the last added first.
 fn is_typed(alloc: Global, scope: &Scope<'_>, body: &Body) -> Result<bool, AllocError>
-    ensures { let typed = IsTyped scope.now (scope.now.results ∷ []) (tree_of body.now 0) [] scope.now.results in IfOk result (λ ok. MatchBool ok typed (typed → ⊥)) }
+    ensures { let results = scope.now.results in
+        let typed = IsTyped scope.now (results ∷ []) (tree_of body.now 0) [] results in
+        IfOk result (λ ok. MatchBool ok typed (typed → ⊥)) }
 {
+    // the tree of a block is its instructions, each with the trees of the blocks that it names
     laws::tree_of_block();
+    // blocks name later ones alone, as that law asks
     let _kept = body.block_count();
     let mut labels: Vec<Label<'_>> = Vec::new(alloc);
     let mut waiting: Vec<Pending<'_>> = Vec::new(alloc);
@@ -108,8 +118,10 @@ fn is_body_typed(
     kind: &FuncType,
     body: &Body,
 ) -> Result<bool, AllocError>
-    ensures { let typed = IsBodyTyped context.now kind.now body.now in IfOk result (λ ok. MatchBool ok typed (typed → ⊥)) }
+    ensures { let typed = IsBodyTyped context.now kind.now body.now in
+        IfOk result (λ ok. MatchBool ok typed (typed → ⊥)) }
 {
+    // the body has fewer than 2^32 runs of locals
     let _kept = body.block_count();
     let scope = Scope {
         context,

@@ -38,7 +38,9 @@ fn add_block<'c>(
     block: Option<u32>,
     waiting: &mut Vec<Pending<'c>>,
 ) -> Result<(), AllocError>
-    ensures { OnOk result (Grown labels.now waiting.old.items waiting.new.items (inner_from (reverse labels.now) (shape_type scope.now.context shape) again block)) }
+    ensures { let kind = shape_type scope.now.context shape in
+        let named = inner_from (reverse labels.now) kind again block in
+        OnOk result (Grown labels.now waiting.old.items waiting.new.items named) }
 {
     match scope.context.shape_type(shape) {
         Some(kind) => {
@@ -62,7 +64,8 @@ fn add_of<'c>(
     instr: Instr,
     waiting: &mut Vec<Pending<'c>>,
 ) -> Result<(), AllocError>
-    ensures { OnOk result (Grown labels.now waiting.old.items waiting.new.items (inner_of scope.now (reverse labels.now) instr)) }
+    ensures { let named = inner_of scope.now (reverse labels.now) instr in
+        OnOk result (Grown labels.now waiting.old.items waiting.new.items named) }
 {
     match instr {
         Instr::Block { shape, body } => add_block(scope, labels, shape, false, Some(body), waiting),
@@ -83,7 +86,8 @@ pub fn add_all<'c>(
     code: &[Instr],
     waiting: &mut Vec<Pending<'c>>,
 ) -> Result<(), AllocError>
-    ensures { OnOk result (Grown labels.now waiting.old.items waiting.new.items (inner_in scope.now (reverse labels.now) code.now)) }
+    ensures { let named = inner_in scope.now (reverse labels.now) code.now in
+        OnOk result (Grown labels.now waiting.old.items waiting.new.items named) }
 {
     for instr in code {
         add_of(scope, labels, *instr, waiting)?;

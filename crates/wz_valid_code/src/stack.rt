@@ -2,19 +2,19 @@
 
 ghost use Rattle.std.specs.Prelude.{◌≡◌, [], ◌∷◌, ◌++◌, reverse, MatchOption, OnOk, IfOk, if◌then◌else◌, Option, Some, None, true, false, IsTrue, ◌↔◌};
 ghost use Rattle.std.specs.Option.{option_to_list};
-ghost use Rattle.wz_valid_code.specs.Operands.{same, fits, is_number, is_reference, pushed};
+ghost use Rattle.wz_types.specs.SameType.{same_type};
+ghost use Rattle.wz_valid_code.specs.Operands.{fits, is_numeric, is_reference, pushed};
 ghost use Rattle.wz_valid_code.specs.Rules.{Exchange, Stop, DropOne, SelectOne, TestReference};
-ghost use Rattle.wz_valid_code.specs.Instructions.{operation_rule};
-ghost use Rattle.wz_valid_code.specs.Checking.{Known, join, taken, is_taken, popped, Got, Gone, after};
+ghost use Rattle.wz_valid_code.specs.Instructions.{operation_rule, bulk_rule};
+ghost use Rattle.wz_valid_code.specs.Checking.{join, taken, is_taken, popped, Got, Gone, Followed};
 
-use crate::effect::{Effect, Form};
 use std::alloc::{AllocError, Global};
 use std::marker::Model;
 use wz_code::OpTypes;
 use wz_types::ValType;
 
 fn is_same(a: ValType, b: ValType) -> bool
-    ensures { result ≡ same a b }
+    ensures { result ≡ same_type a b }
 {
     match (a, b) {
         (ValType::I32, ValType::I32) => true,
@@ -36,8 +36,8 @@ fn does_fit(found: Option<ValType>, asked: ValType) -> bool
     }
 }
 
-fn is_number(kind: Option<ValType>) -> bool
-    ensures { result ≡ is_number kind }
+fn is_numeric(kind: Option<ValType>) -> bool
+    ensures { result ≡ is_numeric kind }
 {
     match kind {
         Some(ValType::FuncRef) | Some(ValType::ExternRef) => false,
@@ -105,6 +105,7 @@ impl Stack {
         self.items.is_empty()
     }
 
+    #[inline]
     fn push(&mut self, kind: Option<ValType>) -> Result<(), AllocError>
         ensures { OnOk result (self.new ≡ record { items = kind ∷ self.old.items; dead = self.old.dead }) }
     {
@@ -112,6 +113,7 @@ impl Stack {
         Ok(())
     }
 
+    #[inline]
     fn pop(&mut self) -> Option<Option<ValType>>
         ensures found { MatchOption result (popped self.old.items self.old.dead ≡ Gone) (λ q. popped self.old.items self.old.dead ≡ Got q self.new.items) }
         ensures same { self.new.dead ≡ self.old.dead }
@@ -122,6 +124,8 @@ impl Stack {
         }
     }
 
+    /// Takes one operand, and leaves the stack in part where it isn't there.
+    #[inline]
     pub fn take_one(&mut self, asked: ValType) -> bool
         ensures taken { taken (asked ∷ []) self.old.items self.old.dead ≡ (if result then Some self.new.items else None) }
         ensures same { self.new.dead ≡ self.old.dead }
@@ -155,8 +159,55 @@ impl Stack {
         Ok(())
     }
 
-    fn exchange(&mut self, takes: &[ValType], gives: &[ValType]) -> Result<bool, AllocError>
-        ensures { IfOk result (λ ok. after (Exchange takes.now gives.now) self.old.items self.old.dead ≡ (if ok then Some self.new else None)) }
+    /// Gives one operand.
+    #[inline]
+    pub fn give_one(&mut self, kind: ValType) -> Result<bool, AllocError>
+        ensures { IfOk result (λ ok. Followed (Exchange [] (kind ∷ [])) self.old self.new ok) }
+    {
+        self.push(Some(kind))?;
+        Ok(true)
+    }
+
+    /// Takes one operand.
+    #[inline]
+    pub fn take_only(&mut self, kind: ValType) -> bool
+        ensures { Followed (Exchange (kind ∷ []) []) self.old self.new result }
+    {
+        self.take_one(kind)
+    }
+
+    /// Takes one operand, and gives one.
+    #[inline]
+    pub fn change_one(&mut self, takes: ValType, gives: ValType) -> Result<bool, AllocError>
+        ensures { let rule = Exchange (takes ∷ []) (gives ∷ []) in
+            IfOk result (λ ok. Followed rule self.old self.new ok) }
+    {
+        if !self.take_one(takes) {
+            return Ok(false);
+        }
+        self.push(Some(gives))?;
+        Ok(true)
+    }
+
+    /// Takes two operands, the second of which was pushed last.
+    #[inline]
+    pub fn take_two(&mut self, first: ValType, second: ValType) -> bool
+        ensures { Followed (Exchange (first ∷ second ∷ []) []) self.old self.new result }
+    {
+        self.take_one(second) && self.take_one(first)
+    }
+
+    /// Takes a place, another number and a length.
+    pub fn take_three_i32(&mut self) -> Result<bool, AllocError>
+        ensures { IfOk result (λ ok. Followed bulk_rule self.old self.new ok) }
+    {
+        self.exchange(&[ValType::I32, ValType::I32, ValType::I32], &[])
+    }
+
+    /// Takes operands of these types, and gives those.
+    pub fn exchange(&mut self, takes: &[ValType], gives: &[ValType]) -> Result<bool, AllocError>
+        ensures { let rule = Exchange takes.now gives.now in
+            IfOk result (λ ok. Followed rule self.old self.new ok) }
     {
         if !self.take(takes) {
             return Ok(false);
@@ -166,8 +217,9 @@ impl Stack {
     }
 
     /// The same with an i32 on top of what is taken.
-    fn exchange_on(&mut self, takes: &[ValType], gives: &[ValType]) -> Result<bool, AllocError>
-        ensures { IfOk result (λ ok. after (Exchange (takes.now ++ ValType.I32 ∷ []) gives.now) self.old.items self.old.dead ≡ (if ok then Some self.new else None)) }
+    pub fn exchange_on(&mut self, takes: &[ValType], gives: &[ValType]) -> Result<bool, AllocError>
+        ensures { let rule = Exchange (takes.now ++ ValType.I32 ∷ []) gives.now in
+            IfOk result (λ ok. Followed rule self.old self.new ok) }
     {
         if !self.take_one(ValType::I32) {
             return Ok(false);
@@ -182,8 +234,9 @@ impl Stack {
         self.dead = true;
     }
 
-    fn stop(&mut self, takes: &[ValType]) -> bool
-        ensures { after (Stop takes.now) self.old.items self.old.dead ≡ (if result then Some self.new else None) }
+    /// Takes operands of these types; what follows is never reached.
+    pub fn stop(&mut self, takes: &[ValType]) -> bool
+        ensures { Followed (Stop takes.now) self.old self.new result }
     {
         if !self.take(takes) {
             return false;
@@ -192,8 +245,9 @@ impl Stack {
         true
     }
 
-    fn drop_one(&mut self) -> bool
-        ensures { after DropOne self.old.items self.old.dead ≡ (if result then Some self.new else None) }
+    #[inline]
+    pub fn drop_one(&mut self) -> bool
+        ensures { Followed DropOne self.old self.new result }
     {
         match self.pop() {
             None => false,
@@ -201,8 +255,8 @@ impl Stack {
         }
     }
 
-    fn select_one(&mut self) -> Result<bool, AllocError>
-        ensures { IfOk result (λ ok. after SelectOne self.old.items self.old.dead ≡ (if ok then Some self.new else None)) }
+    pub fn select_one(&mut self) -> Result<bool, AllocError>
+        ensures { IfOk result (λ ok. Followed SelectOne self.old self.new ok) }
     {
         if !self.take_one(ValType::I32) {
             return Ok(false);
@@ -216,15 +270,15 @@ impl Stack {
         let Some(kind) = joined(second, first) else {
             return Ok(false);
         };
-        if !is_number(kind) {
+        if !is_numeric(kind) {
             return Ok(false);
         }
         self.push(kind)?;
         Ok(true)
     }
 
-    fn test_reference(&mut self) -> Result<bool, AllocError>
-        ensures { IfOk result (λ ok. after TestReference self.old.items self.old.dead ≡ (if ok then Some self.new else None)) }
+    pub fn test_reference(&mut self) -> Result<bool, AllocError>
+        ensures { IfOk result (λ ok. Followed TestReference self.old self.new ok) }
     {
         let Some(found) = self.pop() else {
             return Ok(false);
@@ -236,6 +290,7 @@ impl Stack {
         Ok(true)
     }
 
+    #[inline]
     fn take_second(&mut self, second: Option<ValType>) -> bool
         ensures taken { taken (option_to_list second) self.old.items self.old.dead ≡ (if result then Some self.new.items else None) }
         ensures same { self.new.dead ≡ self.old.dead }
@@ -246,8 +301,9 @@ impl Stack {
         }
     }
 
-    fn operation(&mut self, types: OpTypes) -> Result<bool, AllocError>
-        ensures { IfOk result (λ ok. after (operation_rule types) self.old.items self.old.dead ≡ (if ok then Some self.new else None)) }
+    #[inline]
+    pub fn operation(&mut self, types: OpTypes) -> Result<bool, AllocError>
+        ensures { IfOk result (λ ok. Followed (operation_rule types) self.old self.new ok) }
     {
         if !self.take_second(types.second) {
             return Ok(false);
@@ -257,22 +313,6 @@ impl Stack {
         }
         self.push(Some(types.result))?;
         Ok(true)
-    }
-
-    /// What the rule makes of the stack, or false where it doesn't fit.
-    pub fn follow(&mut self, effect: &Effect<'_>) -> Result<bool, AllocError>
-        ensures { IfOk result (λ ok. after effect.now self.old.items self.old.dead ≡ (if ok then Some self.new else None)) }
-    {
-        match effect.form {
-            Form::Exchange => self.exchange(effect.takes, effect.gives),
-            Form::ExchangeOn => self.exchange_on(effect.takes, effect.gives),
-            Form::Operation(types) => self.operation(types),
-            Form::Stop => Ok(self.stop(effect.takes)),
-            Form::DropOne => Ok(self.drop_one()),
-            Form::SelectOne => self.select_one(),
-            Form::TestReference => self.test_reference(),
-            Form::NoRule => Ok(false),
-        }
     }
 
     /// Whether these types could be taken.

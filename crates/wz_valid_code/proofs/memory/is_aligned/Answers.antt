@@ -1,6 +1,6 @@
 use Rattle.std.proofs.Common.{◌≤◌, ◌^◌, arith}
 use Rattle.std.proofs.Math.Pow.{pow_mono}
-use Rattle.wz_valid_code.proofs.memory_effect.is_aligned.Goals as goal
+use Rattle.wz_valid_code.proofs.memory.is_aligned.Goals as goal
 
 pub returns-else-align-lt32 : goal.returns-else-align-lt32
 returns-else-align-lt32 c =

@@ -5,7 +5,7 @@ use Rattle.wz_types.specs.declared.types.ValType.TheVariants.{I32}
 use Rattle.std.proofs.lemmas.Option.{slice_get-get_or, slice_get_past}
 use Rattle.wz_valid_code.specs.Runs.{Rise}
 use Rattle.wz_valid_code.proofs.RunLemmas.{ends-rise, place-type}
-use Rattle.wz_valid_code.proofs.locals.type_at.Goals as goal
+use Rattle.wz_valid_code.proofs.locals.type_of_place.Goals as goal
 
 pub find_run-at-requires : goal.find_run-at-requires
 find_run-at-requires c = let P : List ℕ → Type 0 = λ x. Rise x in subst P (sym c.requires) (ends-rise 0 c.args.runs.now)
