@@ -37,7 +37,7 @@ tree_of_blocks law scope labels body number before after rise typed =
 abbrev other_declared : Scope → List ℕ → ℕ → Scope
 other_declared scope declared imported = record scope { context = record scope.context { declared = declared; imported_globals = imported } }
 
-if-more : (a b : Bool) (rule : Rule) (s m : Operands) → (IsTrue a → IsTrue b) → Leads (rule_if a rule) s m → Leads (rule_if b rule) s m
+pub if-more : (a b : Bool) (rule : Rule) (s m : Operands) → (IsTrue a → IsTrue b) → Leads (rule_if a rule) s m → Leads (rule_if b rule) s m
 if-more true true rule s m more l = l
 if-more true false rule s m more l = let wrong : IsTrue false = more refl in absurd (cc)
 if-more false b rule s m more l = absurd l
@@ -46,7 +46,7 @@ and-more : (a b c : Bool) → (IsTrue b → IsTrue c) → IsTrue (a && b) → Is
 and-more true b c more h = more h
 and-more false b c more h = h
 
-some-more : (o : Option FunctionType) (P Q : FunctionType → Type 0) → ((type : FunctionType) → P type → Q type) → IsSomeAnd o P → IsSomeAnd o Q
+pub some-more : (o : Option FunctionType) (P Q : FunctionType → Type 0) → ((type : FunctionType) → P type → Q type) → IsSomeAnd o P → IsSomeAnd o Q
 some-more None P Q more h = h
 some-more (Some type) P Q more h = more type h
 

@@ -7,3 +7,4 @@ pub mod StackLemmas
 pub mod TakeLemmas
 pub mod WaitingLemmas
 pub mod WalkLemmas
+pub mod WideningLemmas

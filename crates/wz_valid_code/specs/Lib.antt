@@ -9,3 +9,4 @@ pub mod Checking
 pub mod Runs
 pub mod Waiting
 pub mod Laws
+pub mod Widening

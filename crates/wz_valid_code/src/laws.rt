@@ -1,6 +1,7 @@
 //! Laws of typing, for the proofs of other crates. A law is the contract of a function that does nothing.
 
 ghost use Rattle.wz_valid_code.specs.Laws.{BlocksOfTree, TreeOfBlocks, TypingServes};
+ghost use Rattle.wz_valid_code.specs.Widening.{TypingWidens, ConstantWidens};
 
 /// A block's tree is typed where its own instructions are, each block that they name taken by its type,
 /// and each of those blocks is; and the other way.
@@ -15,4 +16,11 @@ pub fn tree_and_blocks()
 /// how many globals are imported; and it stays where references may be made of more functions.
 pub fn typing_serves()
     ensures { TypingServes }
+{}
+
+/// Typing stays, of code and of constant expressions, where element and data segments are added and the
+/// functions that may be referred to are others, as long as each that the code refers to is among them.
+pub fn typing_widens()
+    ensures typing { TypingWidens }
+    ensures constant { ConstantWidens }
 {}
