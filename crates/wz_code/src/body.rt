@@ -10,9 +10,9 @@ use std::alloc::{AllocError, Global};
 use std::marker::Model;
 use wz_types::ValType;
 
-/// The body of a function, or an expression: its runs of locals, its instructions in numbered blocks,
-/// and the labels and types that the instructions name. Block 0 is the body itself. Each other block
-/// is named by one instruction, which stands in a block of a lower number.
+/// The body of a function, or an expression: its runs of locals, its instructions in numbered
+/// blocks, and the labels and types that the instructions name. Block 0 is the body itself. Each
+/// other block is named by one instruction, which stands in a block of a lower number.
 #[derive(Drop)]
 pub struct Body {
     locals: Vec<(u32, ValType)>,

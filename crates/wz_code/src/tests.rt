@@ -21,8 +21,14 @@ fn rows_of_the_tables(rt: HostRuntime) {
         (NumOp::I64TruncSatF64U, 0xFC, Some(7)),
     ];
     for (op, byte, second) in rows {
-        assert!(rt; opcode(op) == (byte, second));
-        assert!(rt; from_opcode(byte, second) == Some(op));
+        assert!(rt;
+            opcode(op) == (byte, second),
+            "opcode of row {byte:#x} {second:?}"
+        );
+        assert!(rt;
+            from_opcode(byte, second) == Some(op),
+            "row {byte:#x} {second:?} read"
+        );
     }
     let missing = [
         (0x44, None),
@@ -32,7 +38,10 @@ fn rows_of_the_tables(rt: HostRuntime) {
         (0x6A, Some(0)),
     ];
     for (byte, second) in missing {
-        assert!(rt; from_opcode(byte, second) == None);
+        assert!(rt;
+            from_opcode(byte, second) == None,
+            "no row {byte:#x} {second:?}"
+        );
     }
     let OpTypes {
         first,
@@ -57,8 +66,12 @@ fn rows_of_the_accesses(rt: HostRuntime) {
             signed,
             store,
         } = access(op);
-        assert!(rt; (value, bytes, signed, store) == (kind, count, extends, writes));
-        assert!(rt; access_from_opcode(byte) == Some(op));
+        let shape = (value, bytes, signed, store);
+        assert!(rt;
+            shape == (kind, count, extends, writes),
+            "shape of row {byte:#x}"
+        );
+        assert!(rt; access_from_opcode(byte) == Some(op), "row {byte:#x} read");
     }
     assert!(rt; access_from_opcode(0x27) == None);
     assert!(rt; access_from_opcode(0x3F) == None);
