@@ -7,7 +7,7 @@ use Rattle.wz_bytes.specs.Unsigned.{unsigned_at}
 use Rattle.wz_bytes.specs.Signed.{signed_at}
 use Rattle.wz_bytes.specs.Name.{name_at}
 use Rattle.wz_bytes.specs.Forms.{both_at, tagged_at, made_at, sized_at, all_at, vector_at, piece_at}
-use Rattle.wz_top.specs.FirstGrammar.{Module, Export, module_of, global_of, export_of, header}
+use Rattle.wz_top.specs.FirstGrammar.{Module, Export, first_module_of, first_global_of, first_export_of, header}
 use Rattle.wz_top.specs.declared.first_grammar.Global.{Global}
 use Rattle.wz_top.specs.declared.first_grammar.Target.{Target}
 use Rattle.wz_top.specs.declared.first_grammar.Target.TheVariants as target
@@ -27,8 +27,8 @@ end_at (b ∷ bytes) = if b == 0x0B then Some (tt, bytes) else None
 abbrev pub with_text_at : {X : Type 0} → Reading X → Reading (List ℕ × X)
 with_text_at read bytes = read bytes >>= λ x. Some ((take (length bytes - length x.1) bytes, x.0), x.1)
 
-abbrev pub index_at : Reading ℕ
-index_at bytes = unsigned_at 32 bytes
+abbrev pub first_index_at : Reading ℕ
+first_index_at bytes = unsigned_at 32 bytes
 
 abbrev pub integer_at : Reading ℕ
 integer_at bytes = made_at (cast_unsigned w32) (signed_at 32) bytes
@@ -38,23 +38,23 @@ mutability_at [] = None
 mutability_at (b ∷ bytes) = if b == 0 then Some (false, bytes) else (if b == 1 then Some (true, bytes) else None)
 
 abbrev pub global_at : Reading Global
-global_at bytes = made_at global_of (tagged_at 0x7F (both_at mutability_at (tagged_at 0x41 (both_at integer_at end_at)))) bytes
+global_at bytes = made_at first_global_of (tagged_at 0x7F (both_at mutability_at (tagged_at 0x41 (both_at integer_at end_at)))) bytes
 
 abbrev pub target_at : Reading Target
 target_at [] = None
 target_at (b ∷ bytes) =
     if b == 0x00 then (number_at 0 bytes >>= λ x. Some (target.Function, x.1))
-    else (if b == 0x03 then (index_at bytes >>= λ x. Some (target.Global x.0, x.1)) else None)
+    else (if b == 0x03 then (first_index_at bytes >>= λ x. Some (target.Global x.0, x.1)) else None)
 
-abbrev pub export_at : Reading Export
-export_at bytes = made_at export_of (both_at name_at target_at) bytes
+abbrev pub first_export_at : Reading Export
+first_export_at bytes = made_at first_export_of (both_at name_at target_at) bytes
 
 abbrev pub instruction_at : Reading Instruction
 instruction_at [] = None
 instruction_at (b ∷ bytes) =
     if b == 0x41 then (integer_at bytes >>= λ x. Some (instruction.Const x.0, x.1))
-    else (if b == 0x23 then (index_at bytes >>= λ x. Some (instruction.GlobalGet x.0, x.1))
-    else (if b == 0x24 then (index_at bytes >>= λ x. Some (instruction.GlobalSet x.0, x.1))
+    else (if b == 0x23 then (first_index_at bytes >>= λ x. Some (instruction.GlobalGet x.0, x.1))
+    else (if b == 0x24 then (first_index_at bytes >>= λ x. Some (instruction.GlobalSet x.0, x.1))
     else (if b == 0x6A then Some (instruction.Add, bytes) else None)))
 
 -- no instructions, where the end stands in front
@@ -68,8 +68,8 @@ instructions_at zero bytes = None
 instructions_at (suc more) bytes =
     end_or bytes (instruction_at bytes >>= λ x. instructions_at more x.1 >>= λ xs. Some (x.0 ∷ xs.0, xs.1))
 
-unfoldable pub expression_at : Reading (List Instruction)
-expression_at bytes = instructions_at (length bytes) bytes
+unfoldable pub first_expression_at : Reading (List Instruction)
+first_expression_at bytes = instructions_at (length bytes) bytes
 
 abbrev pub one_type_at : Reading (Unit {0})
 one_type_at bytes = made_at (λ _. tt) (both_at (number_at 1) (tagged_at 0x60 (both_at (number_at 0) (number_at 0)))) bytes
@@ -77,22 +77,22 @@ one_type_at bytes = made_at (λ _. tt) (both_at (number_at 1) (tagged_at 0x60 (b
 abbrev pub one_function_at : Reading (Unit {0})
 one_function_at bytes = made_at (λ _. tt) (both_at (number_at 1) (number_at 0)) bytes
 
-abbrev pub entry_at : Reading (List Instruction)
-entry_at bytes = made_at (λ x. x.1) (both_at (number_at 0) expression_at) bytes
+abbrev pub first_entry_at : Reading (List Instruction)
+first_entry_at bytes = made_at (λ x. x.1) (both_at (number_at 0) first_expression_at) bytes
 
 abbrev pub one_body_at : Reading (List Instruction)
-one_body_at bytes = made_at (λ x. x.1) (both_at (number_at 1) (sized_at entry_at)) bytes
+one_body_at bytes = made_at (λ x. x.1) (both_at (number_at 1) (sized_at first_entry_at)) bytes
 
 abbrev pub section_at : {X : Type 0} → ℕ → Reading X → Reading X
 section_at id read bytes = tagged_at id (sized_at read) bytes
 
 abbrev pub sections_at : Reading Module
 sections_at bytes =
-    made_at module_of
+    made_at first_module_of
     (both_at (section_at 1 (with_text_at one_type_at))
     (both_at (section_at 3 (with_text_at one_function_at))
     (both_at (section_at 6 (vector_at global_at))
-    (both_at (section_at 7 (vector_at export_at))
+    (both_at (section_at 7 (vector_at first_export_at))
     (section_at 10 (with_text_at one_body_at)))))) bytes
 
 abbrev pub module_at : List ℕ → Option Module
@@ -106,7 +106,7 @@ abbrev pub globals_in : List ℕ → Option (List Global)
 globals_in contents = all_at (vector_at global_at) contents
 
 abbrev pub exports_in : List ℕ → Option (List Export)
-exports_in contents = all_at (vector_at export_at) contents
+exports_in contents = all_at (vector_at first_export_at) contents
 
 abbrev pub instructions_in : List ℕ → Option (List Instruction)
 instructions_in contents = all_at one_body_at contents

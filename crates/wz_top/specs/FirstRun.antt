@@ -13,8 +13,8 @@ pub record State : Type 0 where
   pub globals : List Global
   pub operands : List ℕ
 
-abbrev pub pushed : State → ℕ → State
-pushed s value = record s { operands = value ∷ s.operands }
+abbrev pub with_operand : State → ℕ → State
+with_operand s value = record s { operands = value ∷ s.operands }
 
 -- a mutable global gets the value on top
 abbrev pub set_global : ℕ → List Global → List ℕ → Option State
@@ -24,16 +24,16 @@ set_global index globals (value ∷ operands) =
     (slice_get globals index)
 
 -- the sum of the two values on top, modulo 2^32
-abbrev pub added : List Global → List ℕ → Option State
-added globals (second ∷ first ∷ operands) = Some (record { globals = globals; operands = ((first + second) % 2 ^ 32) ∷ operands })
-added globals operands = None
+abbrev pub sum_on_stack : List Global → List ℕ → Option State
+sum_on_stack globals (second ∷ first ∷ operands) = Some (record { globals = globals; operands = ((first + second) % 2 ^ 32) ∷ operands })
+sum_on_stack globals operands = None
 
 -- what one instruction does, where its operands and its global are there
 abbrev pub effect : Instruction → State → Option State
-effect (instruction.Const value) s = Some (pushed s value)
-effect (instruction.GlobalGet index) s = option_map (λ g. pushed s g.value) (slice_get s.globals index)
+effect (instruction.Const value) s = Some (with_operand s value)
+effect (instruction.GlobalGet index) s = option_map (λ g. with_operand s g.value) (slice_get s.globals index)
 effect (instruction.GlobalSet index) s = set_global index s.globals s.operands
-effect instruction.Add s = added s.globals s.operands
+effect instruction.Add s = sum_on_stack s.globals s.operands
 
 -- one instruction behind the other
 unfoldable pub run : List Instruction → State → Option State
