@@ -24,3 +24,5 @@ pub at_most_64 : (bits : ℕ) → bits ≤ 64 → 2 ^ bits ≤ 2 ^ 64
 at_most_64 bits h = pow_mono h
 
 pub ruleset steps = (at_least_7, scaled, at_most_64)
+
+pub ruleset widths = (at_least_7, width_bounds)

@@ -72,10 +72,10 @@ impl<'a> Cursor<'a> {
 
     /// Takes `n` bytes.
     pub fn take(&mut self, n: usize) -> Option<&'a [u8]>
-        ensures found { IfSome result (λ piece. Passes (IsPiece n) piece.now self.old self.new) }
+        ensures found { IfSome result (λ p. Passes (IsPiece n) p.now self.old self.new) }
         ensures none { IsNone result → length self.old.left < n }
         ensures stays { IfNone result (self.new ≡ self.old) }
-        ensures exact { Moves (λ piece. piece.now) result self.old self.new (piece_at n self.old.left) }
+        ensures exact { Moves (λ p. p.now) result self.old self.new (piece_at n self.old.left) }
     {
         let (piece, rest) = piece(self.left, n)?;
         self.left = rest;
@@ -135,7 +135,7 @@ impl<'a> Cursor<'a> {
         ensures found { IfSome result (λ name. Passes IsName name.now self.old self.new) }
         ensures none { IsNone result → NoFront IsName self.old.left }
         ensures stays { IfNone result (self.new ≡ self.old) }
-        ensures exact { Moves (λ name. name.now) result self.old self.new (name_at self.old.left) }
+        ensures exact { Moves (λ s. s.now) result self.old self.new (name_at self.old.left) }
     {
         let (name, rest) = front_name(self.left)?;
         self.left = rest;

@@ -22,7 +22,8 @@ pub fn at_most_one()
     ensures name { OneName }
 {}
 
-/// A spelling's value lies within the width, and its length within the width's groups of seven bits.
+/// A spelling's value lies within the width, and its length within the width's groups of seven
+/// bits.
 pub fn spelling_is_bounded()
     ensures unsigned { UnsignedIsBounded }
     ensures signed { SignedIsBounded }
@@ -30,8 +31,8 @@ pub fn spelling_is_bounded()
     ensures signed_length { SignedIsShort }
 {}
 
-/// What is written spells the number at each width that holds it; no spelling is shorter, and no other
-/// is as short.
+/// What is written spells the number at each width that holds it; no spelling is shorter, and no
+/// other is as short.
 pub fn written_is_shortest()
     ensures unsigned { UnsignedIsShortest }
     ensures signed { SignedIsShortest }

@@ -22,7 +22,8 @@ pub fn read_signed<const BITS: u32>(bytes: &[u8], at: usize) -> Option<(i64, usi
     ensures within { IfSome result (λ r. (at < r.1) × (r.1 ≤ length bytes.now)) }
 
     // The same as an equation, for proofs about longer readings.
-    ensures exact { option_map (λ r. (r.0, drop r.1 bytes.now)) result ≡ signed_at BITS (drop at bytes.now) }
+    ensures exact { let read = signed_at BITS (drop at bytes.now) in
+        option_map (λ r. (r.0, drop r.1 bytes.now)) result ≡ read }
 {
     let (value, rest) = signed_front::<BITS>(from_place(bytes, at))?;
     Some((value, bytes.len() - rest.len()))
@@ -46,7 +47,8 @@ pub(crate) fn signed_front<const BITS: u32>(bytes: &[u8]) -> Option<(i64, &[u8])
     }
 }
 
-/// The number of at most so many bits in front, and the bytes behind it. Each call takes seven bits off.
+/// The number of at most so many bits in front, and the bytes behind it. Each call takes seven bits
+/// off.
 #[tactic(auto, unfolding(crate::specs::Signed::signed_at))]
 fn front(bits: u32, bytes: &[u8]) -> Option<(i64, &[u8])>
     requires least { 1 ≤ bits }

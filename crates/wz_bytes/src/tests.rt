@@ -63,8 +63,8 @@ const SIGNED: [(u32, &[u8], Option<(i64, usize)>); 16] = [
     ),
 ];
 
-// The bits, the last byte of a spelling of the greatest length behind bytes of 80, and the value. None
-// stands where one unused bit is wrong, each in turn at either sign.
+// The bits, the last byte of a spelling of the greatest length behind bytes of 80, and the value.
+// None stands where one unused bit is wrong, each in turn at either sign.
 const LAST_UNSIGNED: [(u32, u8, Option<u64>); 14] = [
     (32, 0x00, Some(0)),
     (32, 0x10, None),
@@ -214,7 +214,7 @@ fn walks(rt: HostRuntime) {
 
 #[test]
 fn walks_signed(rt: HostRuntime) {
-    // -128 twice, 2^32 - 1, which 32 bits don't hold, and -2 in ten bytes, which 33 bits don't allow.
+    // -128 twice, 2^32 - 1, which 32 bits don't hold, and -2 in ten bytes, too many for 33 bits.
     let bytes = [
         0x80, 0x7F, 0x80, 0x7F, 0xFF, 0xFF, 0xFF, 0xFF, 0x0F, 0xFE, 0xFF, 0xFF, 0xFF, 0xFF, 0xFF,
         0xFF, 0xFF, 0xFF, 0x7F,

@@ -21,7 +21,8 @@ pub fn read_unsigned<const BITS: u32>(bytes: &[u8], at: usize) -> Option<(u64, u
     ensures within { IfSome result (λ r. (at < r.1) × (r.1 ≤ length bytes.now)) }
 
     // The same as an equation, for proofs about longer readings.
-    ensures exact { option_map (λ r. (r.0, drop r.1 bytes.now)) result ≡ unsigned_at BITS (drop at bytes.now) }
+    ensures exact { let read = unsigned_at BITS (drop at bytes.now) in
+        option_map (λ r. (r.0, drop r.1 bytes.now)) result ≡ read }
 {
     let (value, rest) = unsigned_front::<BITS>(from_place(bytes, at))?;
     Some((value, bytes.len() - rest.len()))
@@ -29,7 +30,7 @@ pub fn read_unsigned<const BITS: u32>(bytes: &[u8], at: usize) -> Option<(u64, u
 
 /// The number in front, and the bytes behind it. Most numbers are one byte, which is read at once.
 #[inline]
-#[tactic(auto, using(crate::proofs::UnsignedLemmas::at_least_7, crate::proofs::UnsignedLemmas::width_bounds), unfolding(crate::specs::Unsigned::unsigned_at))]
+#[tactic(auto, using(crate::proofs::UnsignedLemmas::widths), unfolding(crate::specs::Unsigned::unsigned_at))]
 pub(crate) fn unsigned_front<const BITS: u32>(bytes: &[u8]) -> Option<(u64, &[u8])>
     requires { IsWidth BITS }
     ensures below { IfSome result (λ r. r.0 < 2 ^ BITS) }
@@ -42,7 +43,8 @@ pub(crate) fn unsigned_front<const BITS: u32>(bytes: &[u8]) -> Option<(u64, &[u8
     }
 }
 
-/// The number of at most so many bits in front, and the bytes behind it. Each call takes seven bits off.
+/// The number of at most so many bits in front, and the bytes behind it. Each call takes seven bits
+/// off.
 #[tactic(auto, using(crate::proofs::UnsignedLemmas::steps), unfolding(crate::specs::Unsigned::unsigned_at))]
 fn front(bits: u32, bytes: &[u8]) -> Option<(u64, &[u8])>
     requires { bits ≤ 64 }

@@ -1,5 +1,5 @@
-//! Vectors of anything that is read, as the contents of sections are (Core Specification 2.0, section
-//! 5.1.3). A crate above says how one item is read, and gets the readers of many.
+//! Vectors of anything that is read, as the contents of sections are (Core Specification 2.0,
+//! section 5.1.3). A crate above says how one item is read, and gets the readers of many.
 
 ghost use Rattle.std.specs.Prelude.{◌≡◌, ◌≤◌, ◌<◌, ◌-◌, ◌^◌, ℕ, List, [], length, IfOk, OnOk, IsErrOf};
 ghost use Rattle.wz_bytes.specs.Vectors.{ItemsRead, VectorRead, ItemsBad, VectorBad, NotAll};

@@ -12,14 +12,14 @@ use Rattle.wz_code.specs.BlockRule.{IsBuilding}
 use Rattle.wz_decode_code.specs.declared.token.Token.{Token}
 use Rattle.wz_decode_code.specs.declared.blocks.Open.{Open}
 use Rattle.wz_decode_code.specs.Tokens.{symbol_at}
-use Rattle.wz_decode_code.specs.Reading.{Around, Next, On, Done, Refused, after, go_on, reads, expression_at}
-use Rattle.wz_decode_code.specs.Opened.{arounds, held, IsReading, seen_in}
+use Rattle.wz_decode_code.specs.Reading.{Around, Next, On, Done, Refused, after_symbol, go_on, reads, expression_at}
+use Rattle.wz_decode_code.specs.Opened.{arounds, unnamed_blocks, IsReading, seen_in}
 use Rattle.wz_decode_code.specs.Pools.{SymbolRead}
 use Rattle.wz_decode_code.specs.Code.{IsExpression}
 use Rattle.wz_decode_code.proofs.CodeLaws.{expression_exact}
 use Rattle.wz_decode_code.proofs.ReadsLemmas.{reads_step, reads_none}
 use Rattle.wz_decode_code.proofs.PoolLemmas.{grown_stays, grown_locals}
-use Rattle.wz_decode_code.proofs.StepLemmas.{arounds-all}
+use Rattle.wz_decode_code.proofs.StepLemmas.{arounds_all}
 
 pub start_tree : tree_of no_parts 0 ≡ End
 unfolding tree_in tree_by
@@ -31,29 +31,29 @@ start_reading body building = record { building = building; rises = refl }
 -- the symbol is read, and its step is to be done
 pub record Stepping (body : BodyParts) (here : ℕ) (opens : List Open) (token : Token) (rest : List ℕ) (whole : Option (Code × List ℕ)) : Type 0 where
   pub reading : IsReading body here opens
-  pub next : go_on (λ h a. reads rest h a) rest (after (seen_in body token) (tree_of body here) (arounds body opens)) ≡ whole
+  pub next : go_on (λ h a. reads rest h a) rest (after_symbol (seen_in body token) (tree_of body here) (arounds body opens)) ≡ whole
 
 pub stepping : (bytes rest : List ℕ) (old new : BodyParts) (token : Token) (here : ℕ) (opens : List Open) (whole : Option (Code × List ℕ)) → SymbolRead bytes old new token rest → IsReading old here opens
     → reads bytes (tree_of old here) (arounds old opens) ≡ whole → Stepping new here opens token rest whole
 stepping bytes rest old new token here opens whole s reading so_far =
-    let stays = grown_stays old new (held here opens) reading.building s.grown in
+    let stays = grown_stays old new (unnamed_blocks here opens) reading.building s.grown in
     let code : tree_of new here ≡ tree_of old here = stays.trees here in
-    let around : arounds new opens ≡ arounds old opens = arounds-all new old (λ n. stays.trees n) opens in
+    let around : arounds new opens ≡ arounds old opens = arounds_all new old (λ n. stays.trees n) opens in
     record {
       reading = record { building = stays.building; rises = reading.rises };
       next = rw (code, around) (sym (reads_step bytes (seen_in new token) rest (tree_of old here) (arounds old opens) s.read) ∙ so_far);
     }
 
 pub goes_on : (body : BodyParts) (here : ℕ) (opens : List Open) (token : Token) (rest : List ℕ) (whole : Option (Code × List ℕ)) (now : Code) (outside : List Around) → Stepping body here opens token rest whole
-    → after (seen_in body token) (tree_of body here) (arounds body opens) ≡ On now outside → reads rest now outside ≡ whole
+    → after_symbol (seen_in body token) (tree_of body here) (arounds body opens) ≡ On now outside → reads rest now outside ≡ whole
 goes_on body here opens token rest whole now outside s e = ap (λ (n : Next). go_on (λ h a. reads rest h a) rest n) (sym e) ∙ s.next
 
 pub is_done : (body : BodyParts) (here : ℕ) (opens : List Open) (token : Token) (rest : List ℕ) (whole : Option (Code × List ℕ)) (code : Code) → Stepping body here opens token rest whole
-    → after (seen_in body token) (tree_of body here) (arounds body opens) ≡ Done code → whole ≡ Some (code, rest)
+    → after_symbol (seen_in body token) (tree_of body here) (arounds body opens) ≡ Done code → whole ≡ Some (code, rest)
 is_done body here opens token rest whole code s e = sym s.next ∙ ap (λ (n : Next). go_on (λ h a. reads rest h a) rest n) e
 
 pub is_refused : (body : BodyParts) (here : ℕ) (opens : List Open) (token : Token) (rest : List ℕ) (whole : Option (Code × List ℕ)) → Stepping body here opens token rest whole
-    → after (seen_in body token) (tree_of body here) (arounds body opens) ≡ Refused → whole ≡ None
+    → after_symbol (seen_in body token) (tree_of body here) (arounds body opens) ≡ Refused → whole ≡ None
 is_refused body here opens token rest whole s e = sym s.next ∙ ap (λ (n : Next). go_on (λ h a. reads rest h a) rest n) e
 
 pub no_symbol : (bytes : List ℕ) (here : Code) (around : List Around) (whole : Option (Code × List ℕ)) → symbol_at bytes ≡ None → reads bytes here around ≡ whole → whole ≡ None
