@@ -1,6 +1,6 @@
-//! One block by itself, where each block that it names is taken by its type (Core Specification 2.0,
-//! sections 3.3.8 and 3.3.9). `follow` says of which group each instruction is; the groups' files are
-//! named as in the standard.
+//! One block by itself, where each block that it names is taken by its type (Core Specification
+//! 2.0, sections 3.3.8 and 3.3.9). `follow` says of which group each instruction is; the groups'
+//! files are named as in the standard.
 
 ghost use Rattle.std.specs.Prelude.{◌≡◌, [], reverse, IfOk, MatchBool};
 ghost use Rattle.wz_code.specs.Trees.{leaf_in};
@@ -25,7 +25,8 @@ fn follow(
     instr: Instr,
     stack: &mut Stack,
 ) -> Result<bool, AllocError>
-    ensures { let rule = outer_rule scope.now (reverse labels.now) (λ i. leaf_in body.now i) instr in
+    ensures { let labels = reverse labels.now in
+        let rule = outer_rule scope.now labels (λ i. leaf_in body.now i) instr in
         IfOk result (λ ok. Followed rule stack.old stack.new ok) }
 {
     match instr {
@@ -82,7 +83,7 @@ fn follow(
         Instr::Br(label) => control::br(labels, label, stack),
         Instr::BrIf(label) => control::br_if(labels, label, stack),
         Instr::BrTable { first, count, last } => {
-            let numbers = control::labels_in(body.labels(), first, count);
+            let numbers = control::labels_of(body.labels(), first, count);
             Ok(control::br_table(labels, numbers, last, stack))
         }
         Instr::Return => control::return_all(scope, stack),

@@ -72,7 +72,7 @@ pub fn br_if(labels: &[Label<'_>], label: u32, stack: &mut Stack) -> Result<bool
 
 /// The labels of a br_table: so many items of a pool from the first one on.
 #[inline(never)]
-pub fn labels_in(pool: &[u32], first: u32, count: u32) -> &[u32]
+pub fn labels_of(pool: &[u32], first: u32, count: u32) -> &[u32]
     ensures { result.now ≡ take count (drop first pool.now) }
 {
     let first = pool.len().min(first as usize);
@@ -112,7 +112,7 @@ pub fn br_table(labels: &[Label<'_>], numbers: &[u32], last: u32, stack: &mut St
     if !all_offered(labels, numbers, types.len(), stack) {
         return false;
     }
-    stack.stopped();
+    stack.set_dead();
     true
 }
 
