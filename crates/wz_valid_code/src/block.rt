@@ -9,6 +9,7 @@ ghost use Rattle.wz_valid_code.specs.Rules.{Lead};
 ghost use Rattle.wz_valid_code.specs.Blocks.{outer_rule, outer_rules};
 ghost use Rattle.wz_valid_code.specs.Checking.{Followed};
 
+use crate::control::labels_of;
 use crate::labels::Label;
 use crate::scope::Scope;
 use crate::stack::Stack;
@@ -43,9 +44,7 @@ fn follow(
         // parametric
         Instr::Drop => parametric::drop_one(stack),
         Instr::Select => parametric::select(stack),
-        Instr::SelectTyped { first, count } => {
-            parametric::select_typed(body.types(), first, count, stack)
-        }
+        Instr::SelectTyped { first, count } => parametric::select_typed(body, first, count, stack),
         // variable
         Instr::LocalGet(index) => variable::local_get(scope, index, stack),
         Instr::LocalSet(index) => variable::local_set(scope, index, stack),
@@ -77,14 +76,14 @@ fn follow(
         // control
         Instr::Nop => Ok(true),
         Instr::Unreachable => control::unreachable(stack),
-        Instr::Block { shape, .. } => control::block(scope, shape, stack),
-        Instr::Loop { shape, .. } => control::block(scope, shape, stack),
+        Instr::Block { shape, .. } | Instr::Loop { shape, .. } => control::block(
+            scope, shape, stack,
+        ),
         Instr::If { shape, .. } => control::if_else(scope, shape, stack),
         Instr::Br(label) => control::br(labels, label, stack),
         Instr::BrIf(label) => control::br_if(labels, label, stack),
         Instr::BrTable { first, count, last } => {
-            let numbers = control::labels_of(body.labels(), first, count);
-            Ok(control::br_table(labels, numbers, last, stack))
+            Ok(control::br_table(labels, labels_of(body, first, count), last, stack))
         }
         Instr::Return => control::return_all(scope, stack),
         Instr::Call(function) => control::call(scope, function, stack),
