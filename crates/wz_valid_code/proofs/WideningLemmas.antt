@@ -1,13 +1,10 @@
 -- Typing in a wider context.
-use Rattle.std.proofs.Common.{◌≡◌, ℕ, zero, suc, ◌<◌, ◌≤◌, List, [], ◌∷◌, ◌++◌, Option, Some, None, IsSomeAnd, Bool, true, false, IsTrue, refl, sym, ap, subst, slice_get, ◌&&◌, ◌⊎◌, inl, inr, arith, nat_lt, ◌∙◌}
+use Rattle.std.proofs.Common.{ℕ, zero, suc, ◌≤◌, List, [], ◌∷◌, ◌++◌, Option, Bool, true, false, IsTrue, slice_get, ◌&&◌, arith, nat_lt}
 use Rattle.std.specs.Prelude.{is_some}
-use Rattle.std.proofs.lemmas.Bool.{ltb-true, lt-ltb, cases_Bool}
+use Rattle.std.proofs.lemmas.Bool.{ltb-true, lt-ltb}
 use Rattle.wz_types.specs.declared.types.ValType.{ValType}
 use Rattle.wz_types.specs.declared.types.ValType.TheVariants.{I32, FuncRef}
 use Rattle.wz_types.specs.declared.types.RefKind.{RefKind}
-use Rattle.wz_types.specs.declared.types.RefKind.TheVariants as kind
-use Rattle.wz_types.specs.FunctionType.{FunctionType}
-use Rattle.wz_code.specs.declared.instr.Instr.{Instr}
 use Rattle.wz_code.specs.declared.instr.Instr.TheVariants.{RefFunc, TableInit, ElemDrop, MemoryInit, DataDrop}
 use Rattle.wz_code.specs.Trees.{Code, End, Then, InBlock, InLoop, InIf, Leaf, Plain, TableBranch, TypedSelect}
 use Rattle.wz_valid_code.specs.Operands.{Operands, pushed}

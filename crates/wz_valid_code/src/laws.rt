@@ -1,7 +1,7 @@
 //! Laws of typing, for the proofs of other crates. A law is the contract of a function that does
 //! nothing.
 
-ghost use Rattle.wz_valid_code.specs.Laws.{BlocksOfTree, TreeOfBlocks, TypingServes};
+ghost use Rattle.wz_valid_code.specs.Laws.{BlocksOfTree, TreeOfBlocks, TypingServes, TypedHasWidth, ConstantHasWidth};
 ghost use Rattle.wz_valid_code.specs.Widening.{TypingWidens, ConstantWidens};
 
 /// A block's tree is typed where its own instructions are, each block that they name taken by its
@@ -25,4 +25,11 @@ pub fn typing_serves()
 pub fn typing_widens()
     ensures typing { TypingWidens }
     ensures constant { ConstantWidens }
+{}
+
+/// A constant that has a typing has its width: an i32 of 2^32 is none, though a tree in a clause may
+/// hold it.
+pub fn constants_have_width()
+    ensures typed { TypedHasWidth }
+    ensures constant { ConstantHasWidth }
 {}

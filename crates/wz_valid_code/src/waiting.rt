@@ -59,6 +59,7 @@ fn add_block<'c>(
             })?;
             Ok(())
         }
+        // the instruction that names it has no rule then
         None => Ok(()),
     }
 }
@@ -81,6 +82,7 @@ fn add_of<'c>(
             add_block(scope, labels, shape, false, no, waiting)?;
             Ok(())
         }
+        // one that names a block and was forgotten here has no rule either, so no code with it is typed
         _ => Ok(()),
     }
 }
