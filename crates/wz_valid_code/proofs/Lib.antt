@@ -8,3 +8,4 @@ pub mod TakeLemmas
 pub mod WaitingLemmas
 pub mod WalkLemmas
 pub mod WideningLemmas
+pub mod WidthLemmas

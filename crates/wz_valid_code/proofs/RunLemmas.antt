@@ -55,7 +55,8 @@ run-here : (place end : ℕ) (ends : List ℕ) → place < end → run_of_place 
 run-here place end ends h = grind arith
 
 -- the place that halving comes to
-pub run-found : (place : ℕ) (ends : List ℕ) (i : ℕ) → i ≤ length ends → ((j : ℕ) → j < i → get_or ends j 0 ≤ place) → (i < length ends → place < get_or ends i 0) → i ≡ run_of_place place ends
+pub run-found : (place : ℕ) (ends : List ℕ) (i : ℕ) → i ≤ length ends → ((j : ℕ) → j < i → get_or ends j 0 ≤ place) → (i < length ends → place < get_or ends i 0) → i
+    ≡ run_of_place place ends
 run-found place [] i le below above = omega arith
 run-found place (end ∷ ends) zero le below above = sym (run-here place end ends (above (omega arith)))
 run-found place (end ∷ ends) (suc i) le below above =
@@ -77,11 +78,15 @@ lt-from : (a b : ℕ) → nat_le a b ≡ false → b < a
 lt-from a b e = grind arith
 
 -- a local's type is that of its run
-pub run-type : (before place : ℕ) (runs : List (ℕ × ValType)) → before ≤ place → option_map (λ (run : ℕ × ValType). run.1) (slice_get runs (run_of_place place (ends_of before runs))) ≡ slice_get (locals_of_runs runs) (place - before)
+pub run-type : (before place : ℕ) (runs : List (ℕ × ValType)) → before ≤ place → option_map (λ (run : ℕ × ValType). run.1)
+    (slice_get runs (run_of_place place (ends_of before runs))) ≡ slice_get (locals_of_runs runs) (place - before)
 run-type before place [] h = refl
 run-type before place (run ∷ runs) h = by (λ le. run-type (before + run.0) place runs le) (nat_le (before + run.0) place) refl
   where
-    by : (before + run.0 ≤ place → option_map (λ (run : ℕ × ValType). run.1) (slice_get runs (run_of_place place (ends_of (before + run.0) runs))) ≡ slice_get (locals_of_runs runs) (place - (before + run.0))) → (b : Bool) → nat_le (before + run.0) place ≡ b → option_map (λ (run : ℕ × ValType). run.1) (slice_get (run ∷ runs) (run_of_place place (ends_of before (run ∷ runs)))) ≡ slice_get (locals_of_runs (run ∷ runs)) (place - before)
+    by : (before + run.0 ≤ place → option_map (λ (run : ℕ × ValType). run.1) (slice_get runs (run_of_place place (ends_of (before + run.0) runs)))
+        ≡ slice_get (locals_of_runs runs) (place - (before + run.0))) → (b : Bool) → nat_le (before + run.0) place ≡ b
+        → option_map (λ (run : ℕ × ValType). run.1) (slice_get (run ∷ runs) (run_of_place place (ends_of before (run ∷ runs))))
+        ≡ slice_get (locals_of_runs (run ∷ runs)) (place - before)
     by more true e =
         let le : before + run.0 ≤ place = le-from (before + run.0) place e in
         let split : length (replicate run.0 run.1) + (place - (before + run.0)) ≡ place - before = simp length-replicate (omega arith) in
@@ -96,7 +101,8 @@ run-type before place (run ∷ runs) h = by (λ le. run-type (before + run.0) pl
         ap (λ n. option_map (λ (run : ℕ × ValType). run.1) (slice_get (run ∷ runs) n)) (run-here place (before + run.0) (ends_of (before + run.0) runs) lt)
         ∙ sym (get-left (replicate run.0 run.1) (locals_of_runs runs) (place - before) (simp length-replicate within) ∙ replicate-get run.0 (place - before) run.1 within)
 
-pub place-type : (ends : List ℕ) (runs : List (ℕ × ValType)) (place at : ℕ) → ends ≡ ends_of 0 runs → at ≡ run_of_place place ends → option_map (λ (run : ℕ × ValType). run.1) (slice_get runs at) ≡ slice_get (locals_of_runs runs) place
+pub place-type : (ends : List ℕ) (runs : List (ℕ × ValType)) (place at : ℕ) → ends ≡ ends_of 0 runs → at ≡ run_of_place place ends
+    → option_map (λ (run : ℕ × ValType). run.1) (slice_get runs at) ≡ slice_get (locals_of_runs runs) place
 place-type ends runs place at e is =
     let whole : place - 0 ≡ place = omega arith in
     ap (λ n. option_map (λ (run : ℕ × ValType). run.1) (slice_get runs n)) (is ∙ ap (run_of_place place) e)

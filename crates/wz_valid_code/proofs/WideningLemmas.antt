@@ -1,17 +1,15 @@
 -- Typing in a wider context.
-use Rattle.std.proofs.Common.{◌≡◌, ℕ, zero, suc, ◌<◌, ◌≤◌, List, [], ◌∷◌, ◌++◌, Option, Some, None, IsSomeAnd, Bool, true, false, IsTrue, refl, sym, ap, subst, slice_get, ◌&&◌, ◌⊎◌, inl, inr, arith, nat_lt, ◌∙◌}
-use Rattle.std.proofs.lemmas.Bool.{ltb-true, lt-ltb, cases_Bool}
+use Rattle.std.proofs.Common.{ℕ, zero, suc, ◌≤◌, List, [], ◌∷◌, ◌++◌, Option, Bool, true, false, IsTrue, slice_get, ◌&&◌, arith, nat_lt}
+use Rattle.std.specs.Prelude.{is_some}
+use Rattle.std.proofs.lemmas.Bool.{ltb-true, lt-ltb}
 use Rattle.wz_types.specs.declared.types.ValType.{ValType}
 use Rattle.wz_types.specs.declared.types.ValType.TheVariants.{I32, FuncRef}
 use Rattle.wz_types.specs.declared.types.RefKind.{RefKind}
-use Rattle.wz_types.specs.declared.types.RefKind.TheVariants as kind
-use Rattle.wz_types.specs.FunctionType.{FunctionType}
-use Rattle.wz_code.specs.declared.instr.Instr.{Instr}
 use Rattle.wz_code.specs.declared.instr.Instr.TheVariants.{RefFunc, TableInit, ElemDrop, MemoryInit, DataDrop}
 use Rattle.wz_code.specs.Trees.{Code, End, Then, InBlock, InLoop, InIf, Leaf, Plain, TableBranch, TypedSelect}
 use Rattle.wz_valid_code.specs.Operands.{Operands, pushed}
 use Rattle.wz_valid_code.specs.Rules.{Rule, Exchange, rule_if, Leads}
-use Rattle.wz_valid_code.specs.Context.{TypingContext, Scope, Labels, shape_type, is_there, is_one_kind, has_number, may_refer}
+use Rattle.wz_valid_code.specs.Context.{TypingContext, Scope, Labels, shape_type, is_one_kind, has_number, may_refer}
 use Rattle.wz_valid_code.specs.Instructions.{rule_of}
 use Rattle.wz_valid_code.specs.ConstantInstructions.{constant_rule}
 use Rattle.wz_valid_code.specs.Typing.{IsTyped, LeadsToConstant}
@@ -27,7 +25,7 @@ and-other true b c k h = k
 and-other false b c k h = h
 
 -- what is there stays in a longer list
-there-more : (xs ys : List RefKind) (i : ℕ) → IsTrue (is_there (slice_get xs i)) → IsTrue (is_there (slice_get (xs ++ ys) i))
+there-more : (xs ys : List RefKind) (i : ℕ) → IsTrue (is_some (slice_get xs i)) → IsTrue (is_some (slice_get (xs ++ ys) i))
 there-more [] ys i h = absurd cc
 there-more (x ∷ xs) ys zero h = h
 there-more (x ∷ xs) ys (suc i) h = there-more xs ys i h
@@ -41,15 +39,18 @@ below-more : (i n m : ℕ) → n ≤ m → IsTrue (nat_lt i n) → IsTrue (nat_l
 below-more i n m le h = let less = ltb-true i n h in lt-ltb i m (omega (arith, le, less))
 
 leaf-wider : (scope : Scope) (more : List RefKind) (datas : ℕ) (declared : List ℕ) → scope.context.datas ≤ datas
-    → (labels : Labels) (leaf : Leaf) (s m : Operands) → LeafRefers declared leaf → Leads (rule_of scope labels leaf) s m → Leads (rule_of (widened_scope scope more datas declared) labels leaf) s m
+    → (labels : Labels) (leaf : Leaf) (s m : Operands) → LeafRefers declared leaf → Leads (rule_of scope labels leaf) s m
+    → Leads (rule_of (widened_scope scope more datas declared) labels leaf) s m
 leaf-wider scope more datas declared few labels (Plain (RefFunc function)) s m refers l =
-    if-more (may_refer scope.context function) (is_there (slice_get scope.context.functions function) && has_number function declared) (Exchange [] (FuncRef ∷ [])) s m
-    (and-other (is_there (slice_get scope.context.functions function)) (has_number function scope.context.declared) (has_number function declared) refers) l
+    if-more (may_refer scope.context function) (is_some (slice_get scope.context.functions function) && has_number function declared) (Exchange [] (FuncRef ∷ [])) s m
+    (and-other (is_some (slice_get scope.context.functions function)) (has_number function scope.context.declared) (has_number function declared) refers) l
 leaf-wider scope more datas declared few labels (Plain (TableInit segment table)) s m refers l =
-    if-more (is_one_kind (slice_get scope.context.elements segment) (slice_get scope.context.tables table)) (is_one_kind (slice_get (scope.context.elements ++ more) segment) (slice_get scope.context.tables table))
+    if-more (is_one_kind (slice_get scope.context.elements segment) (slice_get scope.context.tables table))
+    (is_one_kind (slice_get (scope.context.elements ++ more) segment) (slice_get scope.context.tables table))
     (Exchange (I32 ∷ I32 ∷ I32 ∷ []) []) s m (kind-more scope.context.elements more segment (slice_get scope.context.tables table)) l
 leaf-wider scope more datas declared few labels (Plain (ElemDrop segment)) s m refers l =
-    if-more (is_there (slice_get scope.context.elements segment)) (is_there (slice_get (scope.context.elements ++ more) segment)) (Exchange [] []) s m (there-more scope.context.elements more segment) l
+    if-more (is_some (slice_get scope.context.elements segment)) (is_some (slice_get (scope.context.elements ++ more) segment)) (Exchange [] []) s m
+    (there-more scope.context.elements more segment) l
 leaf-wider scope more datas declared few labels (Plain (MemoryInit segment memory)) s m refers l =
     let rule = Exchange (I32 ∷ I32 ∷ I32 ∷ []) [] in
     if-inner (nat_lt memory scope.context.memories) (rule_if (nat_lt segment scope.context.datas) rule) (rule_if (nat_lt segment datas) rule) s m
@@ -61,15 +62,27 @@ leaf-wider scope more datas declared few labels (TableBranch numbers last) s m r
 leaf-wider scope more datas declared few labels (TypedSelect types) s m refers l = l
 
 module _ (scope : Scope) (more : List RefKind) (datas : ℕ) (declared : List ℕ) (few : scope.context.datas ≤ datas) where
-  code-wider : (labels : Labels) (code : Code) (s : Operands) (after : List ValType) → Refers declared code → IsTyped scope labels code s after → IsTyped (widened_scope scope more datas declared) labels code s after
+  code-wider : (labels : Labels) (code : Code) (s : Operands) (after : List ValType) → Refers declared code → IsTyped scope labels code s after
+      → IsTyped (widened_scope scope more datas declared) labels code s after
   code-wider labels End s after r t = t
   code-wider labels (Then leaf rest) s after r t = (t.0, leaf-wider scope more datas declared few labels leaf s t.0 r.0 t.1, code-wider labels rest t.0 after r.1 t.2)
   code-wider labels (InBlock shape inner rest) s after r t =
-      some-more (shape_type scope.context shape) _ _ (λ type p. (code-wider (type.results ∷ labels) inner (pushed type.params []) type.results r.0 p.0, (p.1.0, p.1.1, code-wider labels rest p.1.0 after r.1 p.1.2))) t
+      some-more (shape_type scope.context shape) _ _ (λ type p. (
+        code-wider (type.results ∷ labels) inner (pushed type.params []) type.results r.0 p.0,
+        (p.1.0, p.1.1, code-wider labels rest p.1.0 after r.1 p.1.2),
+      )) t
   code-wider labels (InLoop shape inner rest) s after r t =
-      some-more (shape_type scope.context shape) _ _ (λ type p. (code-wider (type.params ∷ labels) inner (pushed type.params []) type.results r.0 p.0, (p.1.0, p.1.1, code-wider labels rest p.1.0 after r.1 p.1.2))) t
+      some-more (shape_type scope.context shape) _ _ (λ type p. (
+        code-wider (type.params ∷ labels) inner (pushed type.params []) type.results r.0 p.0,
+        (p.1.0, p.1.1, code-wider labels rest p.1.0 after r.1 p.1.2),
+      )) t
   code-wider labels (InIf shape first second rest) s after r t =
-      some-more (shape_type scope.context shape) _ _ (λ type p. (code-wider (type.results ∷ labels) first (pushed type.params []) type.results r.0 p.0, code-wider (type.results ∷ labels) second (pushed type.params []) type.results r.1 p.1, (p.2.0, p.2.1, code-wider labels rest p.2.0 after r.2 p.2.2))) t
+      some-more (shape_type scope.context shape) _ _ (λ type p. (
+        code-wider (type.results ∷ labels) first (pushed type.params []) type.results r.0 p.0,
+        code-wider
+            (type.results ∷ labels) second (pushed type.params []) type.results r.1 p.1,
+        (p.2.0, p.2.1, code-wider labels rest p.2.0 after r.2 p.2.2),
+      )) t
 
 pub typing_widens : TypingWidens
 typing_widens scope more datas declared few labels code before after refers typed = code-wider scope more datas declared few labels code before after refers typed
@@ -79,7 +92,7 @@ typing_widens scope more datas declared few labels code before after refers type
 constant-leaf-wider : (context : TypingContext) (more : List RefKind) (datas : ℕ) (declared : List ℕ) (leaf : Leaf) (s m : Operands) → LeafRefers declared leaf
     → Leads (constant_rule context leaf) s m → Leads (constant_rule (widened context more datas declared) leaf) s m
 constant-leaf-wider context more datas declared (Plain (RefFunc function)) s m refers l =
-    let is_function = is_there (slice_get context.functions function) in
+    let is_function = is_some (slice_get context.functions function) in
     let was = has_number function context.declared in
     let now = has_number function declared in
     if-more (may_refer context function) (is_function && now) (Exchange [] (FuncRef ∷ [])) s m (and-other is_function was now refers) l

@@ -22,7 +22,8 @@ block_rule type = rule_from type (λ type. Exchange type.params type.results)
 abbrev pub if_rule : Option FunctionType → Rule
 if_rule type = rule_from type (λ type. Exchange (type.params ++ I32 ∷ []) type.results)
 
--- an instruction's rule, where `leaf` is the leaf that it is if it holds no others
+-- An instruction's rule, where `leaf` is the leaf that it is if it holds no others. One that holds others and isn't named here
+-- has no rule, by `rule_of`.
 abbrev pub outer_rule : Scope → Labels → (Instr → Leaf) → Instr → Rule
 outer_rule scope labels leaf (Block shape body) = block_rule (shape_type scope.context shape)
 outer_rule scope labels leaf (Loop shape body) = block_rule (shape_type scope.context shape)

@@ -1,5 +1,5 @@
 -- Section 3.1 of the Core Specification: what instructions may name, each with its type.
-use Rattle.std.specs.Prelude.{ℕ, ◌<◌, List, [], ◌∷◌, ◌++◌, Option, Some, None, Bool, true, false, ◌==◌, ◌&&◌, if◌then◌else◌, nat_lt, slice_get, length, replicate, All}
+use Rattle.std.specs.Prelude.{is_some, ℕ, ◌<◌, List, [], ◌∷◌, ◌++◌, Option, Some, None, Bool, true, false, ◌==◌, ◌&&◌, if◌then◌else◌, nat_lt, slice_get, length, replicate, All}
 use Rattle.std.specs.List.{list_any}
 use Rattle.wz_types.specs.declared.types.ValType.{ValType}
 use Rattle.wz_types.specs.declared.types.RefKind.{RefKind}
@@ -84,13 +84,9 @@ if_constant (Some global) = if global.mutable then None else Some global.value
 abbrev pub constant_global : TypingContext → ℕ → Option ValType
 constant_global context index = if nat_lt index context.imported_globals then if_constant (slice_get context.globals index) else None
 
-abbrev pub is_there : {X : Type 0} → Option X → Bool
-is_there None = false
-is_there (Some found) = true
-
 abbrev pub has_number : ℕ → List ℕ → Bool
 has_number number numbers = list_any (λ other. number == other) numbers
 
 -- a function that is there, and of which a reference may be made
 abbrev pub may_refer : TypingContext → ℕ → Bool
-may_refer context function = is_there (slice_get context.functions function) && has_number function context.declared
+may_refer context function = is_some (slice_get context.functions function) && has_number function context.declared

@@ -1,5 +1,5 @@
 -- Sections 3.3.1 to 3.3.8 of the Core Specification: the rule of each instruction that holds no others, in the standard's order.
-use Rattle.std.specs.Prelude.{ℕ, ◌^◌, nat_lt, nat_le, List, [], ◌∷◌, ◌++◌, Option, Some, None, Bool, if◌then◌else◌, slice_get}
+use Rattle.std.specs.Prelude.{is_some, ℕ, ◌^◌, nat_lt, nat_le, List, [], ◌∷◌, ◌++◌, Option, Some, None, Bool, if◌then◌else◌, slice_get}
 use Rattle.std.specs.Option.{option_to_list}
 use Rattle.wz_types.specs.declared.types.ValType.{ValType}
 use Rattle.wz_types.specs.declared.types.ValType.TheVariants.{I32, I64, F32, F64, FuncRef}
@@ -17,7 +17,7 @@ use Rattle.wz_code.specs.declared.accesses.AccessShape.{AccessShape}
 use Rattle.wz_code.specs.Accesses.{shape_of}
 use Rattle.wz_code.specs.Trees.{Leaf, Plain, TableBranch, TypedSelect}
 use Rattle.wz_valid_code.specs.Rules.{Rule, Exchange, Stop, Choose, DropOne, SelectOne, TestReference, NoRule, rule_from, rule_if}
-use Rattle.wz_valid_code.specs.Context.{Scope, Labels, function_type, is_function_kind, is_one_kind, type_to_set, is_there, may_refer}
+use Rattle.wz_valid_code.specs.Context.{Scope, Labels, function_type, is_function_kind, is_one_kind, type_to_set, may_refer}
 
 -- ---- what the rules have in common
 
@@ -87,12 +87,12 @@ rule_of scope labels (Plain (GlobalSet index)) = rule_from (type_to_set (slice_g
 -- table instructions; section 3.3.6
 rule_of scope labels (Plain (TableGet table)) = rule_from (slice_get scope.context.tables table) (λ kind. Exchange (I32 ∷ []) (type_of_kind kind ∷ []))
 rule_of scope labels (Plain (TableSet table)) = rule_from (slice_get scope.context.tables table) (λ kind. Exchange (I32 ∷ type_of_kind kind ∷ []) [])
-rule_of scope labels (Plain (TableSize table)) = rule_if (is_there (slice_get scope.context.tables table)) (Exchange [] (I32 ∷ []))
+rule_of scope labels (Plain (TableSize table)) = rule_if (is_some (slice_get scope.context.tables table)) (Exchange [] (I32 ∷ []))
 rule_of scope labels (Plain (TableGrow table)) = rule_from (slice_get scope.context.tables table) (λ kind. Exchange (type_of_kind kind ∷ I32 ∷ []) (I32 ∷ []))
 rule_of scope labels (Plain (TableFill table)) = rule_from (slice_get scope.context.tables table) (λ kind. Exchange (I32 ∷ type_of_kind kind ∷ I32 ∷ []) [])
 rule_of scope labels (Plain (TableCopy to from)) = rule_if (is_one_kind (slice_get scope.context.tables to) (slice_get scope.context.tables from)) bulk_rule
 rule_of scope labels (Plain (TableInit segment table)) = rule_if (is_one_kind (slice_get scope.context.elements segment) (slice_get scope.context.tables table)) bulk_rule
-rule_of scope labels (Plain (ElemDrop segment)) = rule_if (is_there (slice_get scope.context.elements segment)) (Exchange [] [])
+rule_of scope labels (Plain (ElemDrop segment)) = rule_if (is_some (slice_get scope.context.elements segment)) (Exchange [] [])
 -- memory instructions; section 3.3.7
 rule_of scope labels (Plain (Access op align offset memory)) = rule_if (nat_lt memory scope.context.memories) (aligned_rule align (shape_of op))
 rule_of scope labels (Plain (MemorySize memory)) = rule_if (nat_lt memory scope.context.memories) (Exchange [] (I32 ∷ []))
@@ -114,7 +114,8 @@ rule_of scope labels (TableBranch numbers last) = rule_from (labels_at labels (l
 rule_of scope labels (Plain Return) = Stop scope.results
 rule_of scope labels (Plain (Call function)) = rule_from (function_type scope.context function) (λ type. Exchange type.params type.results)
 rule_of scope labels (Plain (CallIndirect signature table)) =
-    rule_if (is_function_kind (slice_get scope.context.tables table)) (rule_from (slice_get scope.context.types signature) (λ type. Exchange (type.params ++ I32 ∷ []) type.results))
+    rule_if (is_function_kind (slice_get scope.context.tables table)) (rule_from (slice_get scope.context.types signature)
+    (λ type. Exchange (type.params ++ I32 ∷ []) type.results))
 
 -- the rule of an instruction that no label has a part in
 abbrev pub plain_rule : Scope → Instr → Rule

@@ -1,10 +1,9 @@
 -- Typing in a wider context (section 3.1 of the Core Specification): with more segments, and other functions that may be referred to.
-use Rattle.std.specs.Prelude.{◌≡◌, ℕ, ◌≤◌, List, ◌++◌, IsTrue}
+use Rattle.std.specs.Prelude.{ℕ, ◌≤◌, List, ◌++◌, IsTrue}
 use Rattle.wz_types.specs.declared.types.ValType.{ValType}
 use Rattle.wz_types.specs.declared.types.RefKind.{RefKind}
-use Rattle.wz_types.specs.FunctionType.{FunctionType}
 use Rattle.wz_code.specs.declared.instr.Instr.TheVariants.{RefFunc}
-use Rattle.wz_code.specs.Trees.{Code, End, Then, InBlock, InLoop, InIf, Leaf, Plain, TableBranch, TypedSelect}
+use Rattle.wz_code.specs.Trees.{Code, End, Then, InBlock, InLoop, InIf, Leaf, Plain}
 use Rattle.wz_valid_code.specs.Operands.{Operands}
 use Rattle.wz_valid_code.specs.Context.{TypingContext, Scope, Labels, has_number}
 use Rattle.wz_valid_code.specs.Typing.{IsTyped, IsConstant}

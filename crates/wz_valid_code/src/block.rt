@@ -1,6 +1,6 @@
-//! One block by itself, where each block that it names is taken by its type (Core Specification 2.0,
-//! sections 3.3.8 and 3.3.9). `follow` says of which group each instruction is; the groups' files are
-//! named as in the standard.
+//! One block by itself, where each block that it names is taken by its type (Core Specification
+//! 2.0, sections 3.3.8 and 3.3.9). `follow` says of which group each instruction is; the groups'
+//! files are named as in the standard.
 
 ghost use Rattle.std.specs.Prelude.{◌≡◌, [], reverse, IfOk, MatchBool};
 ghost use Rattle.wz_code.specs.Trees.{leaf_in};
@@ -9,6 +9,7 @@ ghost use Rattle.wz_valid_code.specs.Rules.{Lead};
 ghost use Rattle.wz_valid_code.specs.Blocks.{outer_rule, outer_rules};
 ghost use Rattle.wz_valid_code.specs.Checking.{Followed};
 
+use crate::control::labels_of;
 use crate::labels::Label;
 use crate::scope::Scope;
 use crate::stack::Stack;
@@ -25,7 +26,8 @@ fn follow(
     instr: Instr,
     stack: &mut Stack,
 ) -> Result<bool, AllocError>
-    ensures { let rule = outer_rule scope.now (reverse labels.now) (λ i. leaf_in body.now i) instr in
+    ensures { let labels = reverse labels.now in
+        let rule = outer_rule scope.now labels (λ i. leaf_in body.now i) instr in
         IfOk result (λ ok. Followed rule stack.old stack.new ok) }
 {
     match instr {
@@ -42,9 +44,7 @@ fn follow(
         // parametric
         Instr::Drop => parametric::drop_one(stack),
         Instr::Select => parametric::select(stack),
-        Instr::SelectTyped { first, count } => {
-            parametric::select_typed(body.types(), first, count, stack)
-        }
+        Instr::SelectTyped { first, count } => parametric::select_typed(body, first, count, stack),
         // variable
         Instr::LocalGet(index) => variable::local_get(scope, index, stack),
         Instr::LocalSet(index) => variable::local_set(scope, index, stack),
@@ -76,14 +76,14 @@ fn follow(
         // control
         Instr::Nop => Ok(true),
         Instr::Unreachable => control::unreachable(stack),
-        Instr::Block { shape, .. } => control::block(scope, shape, stack),
-        Instr::Loop { shape, .. } => control::block(scope, shape, stack),
+        Instr::Block { shape, .. } | Instr::Loop { shape, .. } => control::block(
+            scope, shape, stack,
+        ),
         Instr::If { shape, .. } => control::if_else(scope, shape, stack),
         Instr::Br(label) => control::br(labels, label, stack),
         Instr::BrIf(label) => control::br_if(labels, label, stack),
         Instr::BrTable { first, count, last } => {
-            let numbers = control::labels_in(body.labels(), first, count);
-            Ok(control::br_table(labels, numbers, last, stack))
+            Ok(control::br_table(labels, labels_of(body, first, count), last, stack))
         }
         Instr::Return => control::return_all(scope, stack),
         Instr::Call(function) => control::call(scope, function, stack),

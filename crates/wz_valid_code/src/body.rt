@@ -13,9 +13,9 @@ use crate::block::check_block;
 use crate::context::Context;
 use crate::labels::Label;
 use crate::locals::Locals;
-use crate::pending::{Pending, add_all};
 use crate::scope::Scope;
 use crate::stack::Stack;
+use crate::waiting::{WaitingBlock, add_all};
 use std::alloc::{AllocError, Global};
 use wz_code::{Body, Instr, laws};
 use wz_types::FuncType;
@@ -41,7 +41,7 @@ pub fn code_of(body: &Body, block: Option<u32>) -> &[Instr]
     }
 }
 
-fn enter<'c>(labels: &mut Vec<Label<'c>>, next: &Pending<'c>) -> Result<(), AllocError>
+fn enter<'c>(labels: &mut Vec<Label<'c>>, next: &WaitingBlock<'c>) -> Result<(), AllocError>
     ensures { OnOk result (labels.new.items ≡ labels_in labels.old.items next.now) }
 {
     labels.truncate(next.depth);
@@ -53,9 +53,9 @@ fn enter<'c>(labels: &mut Vec<Label<'c>>, next: &Pending<'c>) -> Result<(), Allo
 fn turn<'c>(
     scope: &Scope<'c>,
     body: &Body,
-    next: &Pending<'c>,
+    next: &WaitingBlock<'c>,
     labels: &mut Vec<Label<'c>>,
-    waiting: &mut Vec<Pending<'c>>,
+    waiting: &mut Vec<WaitingBlock<'c>>,
     stack: &mut Stack,
 ) -> Result<bool, AllocError>
     ensures within { IfOk result (λ _. labels.new.items ≡ labels_in labels.old.items next.now) }
@@ -95,9 +95,9 @@ fn is_typed(alloc: Global, scope: &Scope<'_>, body: &Body) -> Result<bool, Alloc
     // blocks name later ones alone, as that law asks
     let _kept = body.block_count();
     let mut labels: Vec<Label<'_>> = Vec::new(alloc);
-    let mut waiting: Vec<Pending<'_>> = Vec::new(alloc);
+    let mut waiting: Vec<WaitingBlock<'_>> = Vec::new(alloc);
     let mut stack = Stack::new(alloc);
-    waiting.push(Pending {
+    waiting.push(WaitingBlock {
         block: Some(0),
         depth: 0,
         before: &[],
@@ -131,8 +131,8 @@ fn is_body_typed(
     is_typed(alloc, &scope, body)
 }
 
-/// Checks the body of a function of type `kind`: it is refused as untyped exactly where no typing of it
-/// exists. The number of locals costs nothing, only the number of their runs does.
+/// Checks the body of a function of type `kind`: it is refused as untyped exactly where no typing of
+/// it exists. The number of locals costs nothing, only the number of their runs does.
 pub fn check_body(
     alloc: Global,
     context: &Context<'_>,
@@ -141,7 +141,8 @@ pub fn check_body(
 ) -> Result<(), BodyFault>
     requires { HasTypes context.now }
     ensures typed { OnOk result (IsBodyTyped context.now kind.now body.now) }
-    ensures untyped { result ≡ Err BodyFault.Untyped → IsBodyTyped context.now kind.now body.now → ⊥ }
+    ensures untyped { let typed = IsBodyTyped context.now kind.now body.now in
+        result ≡ Err BodyFault.Untyped → typed → ⊥ }
 {
     match is_body_typed(alloc, context, kind, body) {
         Ok(true) => Ok(()),

@@ -99,8 +99,8 @@ fn is_constant(
     Ok(leads)
 }
 
-/// Checks an expression: it is refused as untyped exactly where it isn't constant, or doesn't give just
-/// one value of type `kind`.
+/// Checks an expression: it is refused as untyped exactly where it isn't constant, or doesn't give
+/// just one value of type `kind`.
 pub fn check_constant(
     alloc: Global,
     context: &Context<'_>,

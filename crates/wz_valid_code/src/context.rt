@@ -1,26 +1,34 @@
 //! What instructions may name (Core Specification 2.0, section 3.1).
 
 ghost use Rattle.std.specs.Prelude.{◌≡◌, [], ◌∷◌, slice_get, nat_lt};
-ghost use Rattle.wz_valid_code.specs.Context.{TypingContext, shape_type, type_by_number, function_type, is_function_kind, is_one_kind, is_there, has_number, may_refer, type_to_set, constant_global};
+ghost use Rattle.wz_valid_code.specs.Context.{TypingContext, shape_type, type_by_number, function_type, is_function_kind, is_one_kind, has_number, may_refer, type_to_set, constant_global};
 
 use std::collections::BTreeSet;
 use std::marker::Model;
 use wz_code::Shape;
 use wz_types::{FuncType, GlobalType, RefKind, TableType, ValType};
 
-/// What the instructions of a module's bodies and expressions may name, imports first: the types, each
-/// function's type by its number, the tables, memories and globals, the kinds of the element segments,
-/// the number of data segments, and the functions that a reference may be made of.
+/// What the instructions of a module's bodies and expressions may name, imports first: the
+/// standard's context C.
 #[derive(Drop)]
 pub struct Context<'c> {
+    /// C.types.
     pub types: &'c [FuncType],
+    /// C.funcs: each function's type by its number.
     pub functions: &'c [u32],
+    /// C.tables.
     pub tables: &'c [TableType],
+    /// How many memories C.mems has.
     pub memories: u32,
+    /// C.globals.
     pub globals: &'c [GlobalType],
+    /// How many of the globals are imported, which constant expressions may read.
     pub imported_globals: u32,
+    /// C.elems: the kind of each element segment.
     pub elements: &'c [RefKind],
+    /// How many data segments C.datas has.
     pub datas: u32,
+    /// C.refs: the functions that a reference may be made of.
     pub declared: &'c BTreeSet<u32>,
 }
 
@@ -30,7 +38,17 @@ impl<'c> Model for Context<'c> {
 
     ghost Value = { TypingContext };
 
-    ghost view = { λ c. record { types = c.types.now; functions = c.functions.now; tables = map (λ table. table.kind) c.tables.now; memories = c.memories; globals = c.globals.now; imported_globals = c.imported_globals; elements = c.elements.now; datas = c.datas; declared = c.declared.now.keys } };
+    ghost view = { λ c. record {
+      types = c.types.now;
+      functions = c.functions.now;
+      tables = map (λ table. table.kind) c.tables.now;
+      memories = c.memories;
+      globals = c.globals.now;
+      imported_globals = c.imported_globals;
+      elements = c.elements.now;
+      datas = c.datas;
+      declared = c.declared.now.keys;
+    } };
 }
 
 /// The types that a block or a function takes and gives.

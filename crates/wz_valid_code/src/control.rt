@@ -13,7 +13,7 @@ use crate::labels::{Label, label_at};
 use crate::scope::Scope;
 use crate::stack::Stack;
 use std::alloc::AllocError;
-use wz_code::Shape;
+use wz_code::{Body, Shape};
 use wz_types::ValType;
 
 #[inline(never)]
@@ -70,11 +70,12 @@ pub fn br_if(labels: &[Label<'_>], label: u32, stack: &mut Stack) -> Result<bool
     }
 }
 
-/// The labels of a br_table: so many items of a pool from the first one on.
+/// The labels of a br_table but its last: so many of the body's pool from the first one on.
 #[inline(never)]
-pub fn labels_in(pool: &[u32], first: u32, count: u32) -> &[u32]
-    ensures { result.now ≡ take count (drop first pool.now) }
+pub fn labels_of(body: &Body, first: u32, count: u32) -> &[u32]
+    ensures { result.now ≡ take count (drop first body.now.labels) }
 {
+    let pool = body.labels();
     let first = pool.len().min(first as usize);
     let rest = &pool[first..];
     let count = rest.len().min(count as usize);
@@ -112,7 +113,7 @@ pub fn br_table(labels: &[Label<'_>], numbers: &[u32], last: u32, stack: &mut St
     if !all_offered(labels, numbers, types.len(), stack) {
         return false;
     }
-    stack.stopped();
+    stack.set_dead();
     true
 }
 

@@ -33,7 +33,8 @@ fn shaped_access(shape: AccessShape, stack: &mut Stack) -> Result<bool, AllocErr
 
 #[inline]
 fn aligned_access(op: MemOp, align: u32, stack: &mut Stack) -> Result<bool, AllocError>
-    ensures { IfOk result (λ ok. Followed (aligned_rule align (shape_of op)) stack.old stack.new ok) }
+    ensures { let rule = aligned_rule align (shape_of op) in
+        IfOk result (λ ok. Followed rule stack.old stack.new ok) }
 {
     let shape = access(op);
     if !is_aligned(align, shape.bytes) {

@@ -13,28 +13,32 @@ use wz_types::ValType;
 
 #[inline]
 pub fn i32_const(bits: u32, stack: &mut Stack) -> Result<bool, AllocError>
-    ensures { IfOk result (λ ok. Followed (constant_of valtype.I32 32 bits) stack.old stack.new ok) }
+    ensures { let rule = constant_of valtype.I32 32 bits in
+        IfOk result (λ ok. Followed rule stack.old stack.new ok) }
 {
     stack.give_one(ValType::I32)
 }
 
 #[inline]
 pub fn i64_const(bits: u64, stack: &mut Stack) -> Result<bool, AllocError>
-    ensures { IfOk result (λ ok. Followed (constant_of valtype.I64 64 bits) stack.old stack.new ok) }
+    ensures { let rule = constant_of valtype.I64 64 bits in
+        IfOk result (λ ok. Followed rule stack.old stack.new ok) }
 {
     stack.give_one(ValType::I64)
 }
 
 #[inline]
 pub fn f32_const(bits: u32, stack: &mut Stack) -> Result<bool, AllocError>
-    ensures { IfOk result (λ ok. Followed (constant_of valtype.F32 32 bits) stack.old stack.new ok) }
+    ensures { let rule = constant_of valtype.F32 32 bits in
+        IfOk result (λ ok. Followed rule stack.old stack.new ok) }
 {
     stack.give_one(ValType::F32)
 }
 
 #[inline]
 pub fn f64_const(bits: u64, stack: &mut Stack) -> Result<bool, AllocError>
-    ensures { IfOk result (λ ok. Followed (constant_of valtype.F64 64 bits) stack.old stack.new ok) }
+    ensures { let rule = constant_of valtype.F64 64 bits in
+        IfOk result (λ ok. Followed rule stack.old stack.new ok) }
 {
     stack.give_one(ValType::F64)
 }

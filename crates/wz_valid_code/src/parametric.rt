@@ -7,6 +7,7 @@ ghost use Rattle.wz_valid_code.specs.Checking.{Followed};
 
 use crate::stack::Stack;
 use std::alloc::AllocError;
+use wz_code::Body;
 use wz_types::ValType;
 
 #[inline]
@@ -23,10 +24,11 @@ pub fn select(stack: &mut Stack) -> Result<bool, AllocError>
     stack.select_one()
 }
 
-/// So many items of a pool from the first one on.
-fn types_in(pool: &[ValType], first: u32, count: u32) -> &[ValType]
-    ensures { result.now ≡ take count (drop first pool.now) }
+/// The types of a select: so many of the body's pool from the first one on.
+fn types_of(body: &Body, first: u32, count: u32) -> &[ValType]
+    ensures { result.now ≡ take count (drop first body.now.types) }
 {
+    let pool = body.types();
     let first = pool.len().min(first as usize);
     let rest = &pool[first..];
     let count = rest.len().min(count as usize);
@@ -43,16 +45,16 @@ fn select_by(types: &[ValType], stack: &mut Stack) -> Result<bool, AllocError>
     }
 }
 
-/// A select with types, which stand in this pool.
+/// A select with types, which stand in the body's pool.
 #[inline(never)]
 pub fn select_typed(
-    pool: &[ValType],
+    body: &Body,
     first: u32,
     count: u32,
     stack: &mut Stack,
 ) -> Result<bool, AllocError>
-    ensures { let rule = select_rule (take count (drop first pool.now)) in
+    ensures { let rule = select_rule (take count (drop first body.now.types)) in
         IfOk result (λ ok. Followed rule stack.old stack.new ok) }
 {
-    select_by(types_in(pool, first, count), stack)
+    select_by(types_of(body, first, count), stack)
 }

@@ -29,7 +29,8 @@ pub fn is_null(stack: &mut Stack) -> Result<bool, AllocError>
 
 #[inline(never)]
 pub fn func(context: &Context<'_>, function: u32, stack: &mut Stack) -> Result<bool, AllocError>
-    ensures { let rule = rule_if (may_refer context.now function) (Exchange [] (valtype.FuncRef ∷ [])) in
+    ensures { let gives = Exchange [] (valtype.FuncRef ∷ []) in
+        let rule = rule_if (may_refer context.now function) gives in
         IfOk result (λ ok. Followed rule stack.old stack.new ok) }
 {
     if !context.may_refer(function) {

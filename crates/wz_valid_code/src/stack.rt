@@ -1,12 +1,12 @@
 //! The stack of operand types, with a type that fits any (Core Specification 2.0, section 7.3).
 
-ghost use Rattle.std.specs.Prelude.{◌≡◌, [], ◌∷◌, ◌++◌, reverse, MatchOption, OnOk, IfOk, if◌then◌else◌, Option, Some, None, true, false, IsTrue, ◌↔◌};
+ghost use Rattle.std.specs.Prelude.{◌≡◌, [], ◌∷◌, ◌++◌, reverse, is_some, OnOk, IfOk, false, true, IsTrue, ◌↔◌};
 ghost use Rattle.std.specs.Option.{option_to_list};
 ghost use Rattle.wz_types.specs.SameType.{same_type};
 ghost use Rattle.wz_valid_code.specs.Operands.{fits, is_numeric, is_reference, pushed};
 ghost use Rattle.wz_valid_code.specs.Rules.{Exchange, Stop, DropOne, SelectOne, TestReference};
 ghost use Rattle.wz_valid_code.specs.Instructions.{operation_rule, bulk_rule};
-ghost use Rattle.wz_valid_code.specs.Checking.{join, taken, is_taken, popped, Got, Gone, Followed};
+ghost use Rattle.wz_valid_code.specs.Checking.{common_type, after_taking, AfterTaking, AfterPopping, Followed};
 
 use std::alloc::{AllocError, Global};
 use std::marker::Model;
@@ -55,8 +55,8 @@ fn is_reference(kind: Option<ValType>) -> bool
 }
 
 /// The type that both operands of a select have.
-fn joined(a: Option<ValType>, b: Option<ValType>) -> Option<Option<ValType>>
-    ensures { result ≡ join a b }
+fn common_type(a: Option<ValType>, b: Option<ValType>) -> Option<Option<ValType>>
+    ensures { result ≡ common_type a b }
 {
     match (a, b) {
         (None, b) => Some(b),
@@ -65,8 +65,8 @@ fn joined(a: Option<ValType>, b: Option<ValType>) -> Option<Option<ValType>>
     }
 }
 
-/// The known operands of the block that is checked; None is one that may be of any type. A `dead` stack
-/// goes on below them with as many more of any type as are asked for.
+/// The known operands of the block that is checked; None is one that may be of any type. A `dead`
+/// stack goes on below them with as many more of any type as are asked for.
 #[derive(Drop)]
 pub struct Stack {
     items: Vec<Option<ValType>>,
@@ -107,7 +107,7 @@ impl Stack {
 
     #[inline]
     fn push(&mut self, kind: Option<ValType>) -> Result<(), AllocError>
-        ensures { OnOk result (self.new ≡ record { items = kind ∷ self.old.items; dead = self.old.dead }) }
+        ensures { OnOk result (self.new ≡ record self.old { items = kind ∷ self.old.items }) }
     {
         self.items.push(kind)?;
         Ok(())
@@ -115,7 +115,7 @@ impl Stack {
 
     #[inline]
     fn pop(&mut self) -> Option<Option<ValType>>
-        ensures found { MatchOption result (popped self.old.items self.old.dead ≡ Gone) (λ q. popped self.old.items self.old.dead ≡ Got q self.new.items) }
+        ensures found { AfterPopping self.old self.new result }
         ensures same { self.new.dead ≡ self.old.dead }
     {
         match self.items.pop() {
@@ -127,7 +127,7 @@ impl Stack {
     /// Takes one operand, and leaves the stack in part where it isn't there.
     #[inline]
     pub fn take_one(&mut self, asked: ValType) -> bool
-        ensures taken { taken (asked ∷ []) self.old.items self.old.dead ≡ (if result then Some self.new.items else None) }
+        ensures taken { AfterTaking (asked ∷ []) self.old self.new result }
         ensures same { self.new.dead ≡ self.old.dead }
     {
         match self.pop() {
@@ -137,7 +137,7 @@ impl Stack {
     }
 
     pub fn take(&mut self, types: &[ValType]) -> bool
-        ensures taken { taken (reverse types.now) self.old.items self.old.dead ≡ (if result then Some self.new.items else None) }
+        ensures taken { AfterTaking (reverse types.now) self.old self.new result }
         ensures same { self.new.dead ≡ self.old.dead }
     {
         let mut left = types.len();
@@ -151,7 +151,8 @@ impl Stack {
     }
 
     pub fn give(&mut self, types: &[ValType]) -> Result<(), AllocError>
-        ensures { OnOk result (self.new ≡ record { items = pushed types.now self.old.items; dead = self.old.dead }) }
+        ensures { let items = pushed types.now self.old.items in
+            OnOk result (self.new ≡ record self.old { items = items }) }
     {
         for kind in types {
             self.push(Some(*kind))?;
@@ -227,7 +228,8 @@ impl Stack {
         self.exchange(takes, gives)
     }
 
-    pub fn stopped(&mut self)
+    /// What follows is never reached.
+    pub fn set_dead(&mut self)
         ensures { self.new ≡ record { items = []; dead = true } }
     {
         self.clear();
@@ -241,7 +243,7 @@ impl Stack {
         if !self.take(takes) {
             return false;
         }
-        self.stopped();
+        self.set_dead();
         true
     }
 
@@ -267,7 +269,7 @@ impl Stack {
         let Some(first) = self.pop() else {
             return Ok(false);
         };
-        let Some(kind) = joined(second, first) else {
+        let Some(kind) = common_type(second, first) else {
             return Ok(false);
         };
         if !is_numeric(kind) {
@@ -292,7 +294,7 @@ impl Stack {
 
     #[inline]
     fn take_second(&mut self, second: Option<ValType>) -> bool
-        ensures taken { taken (option_to_list second) self.old.items self.old.dead ≡ (if result then Some self.new.items else None) }
+        ensures taken { AfterTaking (option_to_list second) self.old self.new result }
         ensures same { self.new.dead ≡ self.old.dead }
     {
         match second {
@@ -317,7 +319,7 @@ impl Stack {
 
     /// Whether these types could be taken.
     pub fn offers(&self, types: &[ValType]) -> bool
-        ensures { result ≡ is_taken (taken (reverse types.now) self.now.items self.now.dead) }
+        ensures { result ≡ is_some (after_taking (reverse types.now) self.now.items self.now.dead) }
     {
         let mut left = types.len();
         let mut below = self.items.len();

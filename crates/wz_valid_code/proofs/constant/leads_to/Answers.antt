@@ -15,28 +15,34 @@ loop-instr-init c =
 
 pub returns-then-not-branch : goal.returns-then-not-branch
 returns-then-not-branch c =
-    let P : List Instr → Type 0 = λ rest. Walked (constant_rules c.args.context.now c.args.code.now) (constant_rules c.args.context.now rest) [] (c.args.kind ∷ []) c.loop-instr.stack in
-    walk-stuck (constant_rules c.args.context.now c.args.code.now) (constant_instr_rule c.args.context.now (get_or c.args.code.now c.loop-instr.instr-index Unreachable)) (constant_rules c.args.context.now (drop (c.loop-instr.instr-index + 1) c.args.code.now)) [] (c.args.kind ∷ []) c.loop-instr.stack
+    let P : List Instr → Type 0 = λ rest. Walked (constant_rules c.args.context.now c.args.code.now) (constant_rules c.args.context.now rest) [] (c.args.kind ∷ [])
+    c.loop-instr.stack in
+    walk-stuck (constant_rules c.args.context.now c.args.code.now) (constant_instr_rule c.args.context.now (get_or c.args.code.now c.loop-instr.instr-index Unreachable))
+    (constant_rules c.args.context.now (drop (c.loop-instr.instr-index + 1) c.args.code.now)) [] (c.args.kind ∷ []) c.loop-instr.stack
     (subst P (drop_more c.args.code.now c.loop-instr.instr-index Unreachable c.loop-instr-test.true) c.loop-instr.invariant)
     (rw c.if-not-branch.true at c.in_ok-follow_constant.ensures)
 
 pub loop-instr-preserved : goal.loop-instr-preserved
 loop-instr-preserved c =
-    let P : List Instr → Type 0 = λ rest. Walked (constant_rules c.args.context.now c.args.code.now) (constant_rules c.args.context.now rest) [] (c.args.kind ∷ []) c.loop-instr.stack in
-    walk-step (constant_rules c.args.context.now c.args.code.now) (constant_instr_rule c.args.context.now (get_or c.args.code.now c.loop-instr.instr-index Unreachable)) (constant_rules c.args.context.now (drop (c.loop-instr.instr-index + 1) c.args.code.now)) [] (c.args.kind ∷ []) c.loop-instr.stack c.follow_constant.new.stack
+    let P : List Instr → Type 0 = λ rest. Walked (constant_rules c.args.context.now c.args.code.now) (constant_rules c.args.context.now rest) [] (c.args.kind ∷ [])
+    c.loop-instr.stack in
+    walk-step (constant_rules c.args.context.now c.args.code.now) (constant_instr_rule c.args.context.now (get_or c.args.code.now c.loop-instr.instr-index Unreachable))
+    (constant_rules c.args.context.now (drop (c.loop-instr.instr-index + 1) c.args.code.now)) [] (c.args.kind ∷ []) c.loop-instr.stack c.follow_constant.new.stack
     (subst P (drop_more c.args.code.now c.loop-instr.instr-index Unreachable c.loop-instr-test.true) c.loop-instr.invariant)
     (rw c.if-not-branch.false at c.in_ok-follow_constant.ensures)
 
 pub returns-then-not-take_one : goal.returns-then-not-take_one
 returns-then-not-take_one c =
-    let P : List Instr → Type 0 = λ rest. Walked (constant_rules c.args.context.now c.args.code.now) (constant_rules c.args.context.now rest) [] (c.args.kind ∷ []) c.loop-instr.stack in
+    let P : List Instr → Type 0 = λ rest. Walked (constant_rules c.args.context.now c.args.code.now) (constant_rules c.args.context.now rest) [] (c.args.kind ∷ [])
+    c.loop-instr.stack in
     walk-short (constant_rules c.args.context.now c.args.code.now) [] (c.args.kind ∷ []) c.loop-instr.stack
     (subst P (drop_all c.loop-instr.instr-index c.args.code.now (omega arith)) c.loop-instr.invariant)
     (λ left e none. absurd (cc (c.if-not-take_one.ensures.taken, e)))
 
 pub returns : goal.returns
 returns c =
-    let P : List Instr → Type 0 = λ rest. Walked (constant_rules c.args.context.now c.args.code.now) (constant_rules c.args.context.now rest) [] (c.args.kind ∷ []) c.loop-instr.stack in
+    let P : List Instr → Type 0 = λ rest. Walked (constant_rules c.args.context.now c.args.code.now) (constant_rules c.args.context.now rest) [] (c.args.kind ∷ [])
+    c.loop-instr.stack in
     walk-over (constant_rules c.args.context.now c.args.code.now) [] (c.args.kind ∷ []) c.loop-instr.stack c.take_one.new.self.items c.is_empty.result
     (subst P (drop_all c.loop-instr.instr-index c.args.code.now (omega arith)) c.loop-instr.invariant)
     c.if-not-take_one.ensures.taken c.is_empty.ensures

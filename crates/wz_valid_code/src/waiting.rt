@@ -14,7 +14,7 @@ use wz_types::ValType;
 
 /// A block that waits, or an arm that was left out, within `depth` others.
 #[derive(Drop)]
-pub struct Pending<'c> {
+pub struct WaitingBlock<'c> {
     pub block: Option<u32>,
     pub depth: usize,
     pub before: &'c [ValType],
@@ -22,12 +22,18 @@ pub struct Pending<'c> {
     pub label: &'c [ValType],
 }
 
-impl<'c> Model for Pending<'c> {
-    ghost use Rattle.wz_valid_code.specs.Waiting.{Pending as ThePending};
+impl<'c> Model for WaitingBlock<'c> {
+    ghost use Rattle.wz_valid_code.specs.Waiting.{WaitingBlock as TheBlock};
 
-    ghost Value = { ThePending };
+    ghost Value = { TheBlock };
 
-    ghost view = { λ w. record { block = w.block; depth = w.depth; before = w.before.now; results = w.results.now; label = w.label.now } };
+    ghost view = { λ w. record {
+      block = w.block;
+      depth = w.depth;
+      before = w.before.now;
+      results = w.results.now;
+      label = w.label.now;
+    } };
 }
 
 fn add_block<'c>(
@@ -36,7 +42,7 @@ fn add_block<'c>(
     shape: Shape,
     again: bool,
     block: Option<u32>,
-    waiting: &mut Vec<Pending<'c>>,
+    waiting: &mut Vec<WaitingBlock<'c>>,
 ) -> Result<(), AllocError>
     ensures { let kind = shape_type scope.now.context shape in
         let named = inner_from (reverse labels.now) kind again block in
@@ -44,7 +50,7 @@ fn add_block<'c>(
 {
     match scope.context.shape_type(shape) {
         Some(kind) => {
-            waiting.push(Pending {
+            waiting.push(WaitingBlock {
                 block,
                 depth: labels.len(),
                 before: kind.params,
@@ -53,6 +59,7 @@ fn add_block<'c>(
             })?;
             Ok(())
         }
+        // the instruction that names it has no rule then
         None => Ok(()),
     }
 }
@@ -62,7 +69,7 @@ fn add_of<'c>(
     scope: &Scope<'c>,
     labels: &[Label<'c>],
     instr: Instr,
-    waiting: &mut Vec<Pending<'c>>,
+    waiting: &mut Vec<WaitingBlock<'c>>,
 ) -> Result<(), AllocError>
     ensures { let named = inner_of scope.now (reverse labels.now) instr in
         OnOk result (Grown labels.now waiting.old.items waiting.new.items named) }
@@ -75,6 +82,7 @@ fn add_of<'c>(
             add_block(scope, labels, shape, false, no, waiting)?;
             Ok(())
         }
+        // one that names a block and was forgotten here has no rule either, so no code with it is typed
         _ => Ok(()),
     }
 }
@@ -84,7 +92,7 @@ pub fn add_all<'c>(
     scope: &Scope<'c>,
     labels: &[Label<'c>],
     code: &[Instr],
-    waiting: &mut Vec<Pending<'c>>,
+    waiting: &mut Vec<WaitingBlock<'c>>,
 ) -> Result<(), AllocError>
     ensures { let named = inner_in scope.now (reverse labels.now) code.now in
         OnOk result (Grown labels.now waiting.old.items waiting.new.items named) }
