@@ -11,16 +11,16 @@ use Rattle.wz_top.specs.declared.first_grammar.Target.TheVariants as target
 use Rattle.wz_top.specs.declared.first_grammar.Instruction.{Instruction}
 use Rattle.wz_top.specs.declared.first_grammar.Instruction.TheVariants as instruction
 
-pub record Export : Type 0 where
+pub record FirstExport : Type 0 where
   pub name : List ℕ
   pub target : Target
 
 -- the payloads of the sections that are kept, and what the other sections and the code hold
-pub record Module : Type 0 where
+pub record FirstModule : Type 0 where
   pub types : List ℕ
   pub functions : List ℕ
   pub globals : List Global
-  pub exports : List Export
+  pub exports : List FirstExport
   pub code : List ℕ
   pub instructions : List Instruction
 
@@ -86,10 +86,10 @@ abbrev pub IsTarget : List ℕ → Target → Type 0
 IsTarget text target.Function = Tagged 0x00 (IsNumber 0) text tt
 IsTarget text (target.Global index) = Tagged 0x03 IsIndex text index
 
-abbrev pub first_export_of : List ℕ × Target → Export
+abbrev pub first_export_of : List ℕ × Target → FirstExport
 first_export_of x = record { name = x.0; target = x.1 }
 
-abbrev pub IsFirstExport : List ℕ → Export → Type 0
+abbrev pub IsFirstExport : List ℕ → FirstExport → Type 0
 IsFirstExport text export = Made first_export_of (Both IsName IsTarget) text export
 
 -- one code entry, without locals
@@ -105,7 +105,7 @@ IsSection id Spells text x = Tagged id (Sized Spells) text x
 abbrev pub header : List ℕ
 header = 0x00 ∷ 0x61 ∷ 0x73 ∷ 0x6D ∷ 0x01 ∷ 0x00 ∷ 0x00 ∷ 0x00 ∷ []
 
-abbrev pub first_module_of : (List ℕ × Unit {0}) × ((List ℕ × Unit {0}) × (List Global × (List Export × (List ℕ × List Instruction)))) → Module
+abbrev pub first_module_of : (List ℕ × Unit {0}) × ((List ℕ × Unit {0}) × (List Global × (List FirstExport × (List ℕ × List Instruction)))) → FirstModule
 first_module_of x = record {
   types = x.0.0;
   functions = x.1.0.0;
@@ -116,7 +116,7 @@ first_module_of x = record {
 }
 
 -- the five sections, in this order
-abbrev pub AreSections : List ℕ → Module → Type 0
+abbrev pub AreSections : List ℕ → FirstModule → Type 0
 AreSections text first =
     Made first_module_of
     (Both (IsSection 1 (WithText IsOneType))
@@ -126,7 +126,7 @@ AreSections text first =
     (IsSection 10 (WithText IsOneBody)))))) text first
 
 -- section 5.5.16: the bytes spell the module
-pub record Spells (bytes : List ℕ) (first : Module) : Type 0 where
+pub record Spells (bytes : List ℕ) (first : FirstModule) : Type 0 where
   pub sections : List ℕ
   pub whole : bytes ≡ header ++ sections
   pub spelled : AreSections sections first
