@@ -1,0 +1,7 @@
+//! The operations on a list of operands.
+use crate::answer::NumAnswer;
+use wz_code::NumOp;
+use wz_types::Value;
+pub fn eval(op: NumOp, operands: &[Value]) -> NumAnswer {
+    NumAnswer::Stuck
+}
