@@ -3,3 +3,4 @@ pub mod Floats
 pub mod Conversions
 pub mod Number
 pub mod Answers
+pub mod Laws
