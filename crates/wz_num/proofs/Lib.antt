@@ -1,2 +1,4 @@
 mod PatternLemmas
 mod StuckLemmas
+mod BoundLemmas
+mod ServeLemmas

@@ -36,7 +36,7 @@ same n a h = ap (λ (x : ℕ). x % 2 ^ n) (mul-one a) ∙ mod-eq_of_lt h
 none : (n : ℕ) → (n - 0) % n ≡ 0
 none n = ap (λ (x : ℕ). x % n) (sub-zero n) ∙ mod_self n
 
-left_at : (n a k : ℕ) → k < n → a < 2 ^ n → bit_or (a * 2 ^ k % 2 ^ n) (a / 2 ^ ((n - k) % n)) ≡ a * 2 ^ k % 2 ^ n + a / 2 ^ (n - k)
+pub left_at : (n a k : ℕ) → k < n → a < 2 ^ n → bit_or (a * 2 ^ k % 2 ^ n) (a / 2 ^ ((n - k) % n)) ≡ a * 2 ^ k % 2 ^ n + a / 2 ^ (n - k)
 left_at n a zero below h =
     let gone : a / 2 ^ (n - 0) ≡ 0 = ap (λ (e : ℕ). a / 2 ^ e) (sub-zero n) ∙ div-eq_of_lt h in
     ap₂ (λ (x y : ℕ). bit_or x y) (same n a h) (ap (λ (e : ℕ). a / 2 ^ e) (none n) ∙ div-one a) ∙ or_self a
@@ -48,7 +48,7 @@ left_at n a (suc k) below h =
     ∙ subst (λ (m : ℕ). bit_or (a * 2 ^ suc k % 2 ^ m) (a / 2 ^ (n - suc k)) ≡ a * 2 ^ suc k % 2 ^ m + a / 2 ^ (n - suc k)) sum
         (left_by a (suc k) (n - suc k) (subst (λ (m : ℕ). a < 2 ^ m) (sym sum) h))
 
-right_at : (n a k : ℕ) → k < n → a < 2 ^ n → bit_or (a / 2 ^ k) (a * 2 ^ ((n - k) % n) % 2 ^ n) ≡ a / 2 ^ k + a * 2 ^ (n - k) % 2 ^ n
+pub right_at : (n a k : ℕ) → k < n → a < 2 ^ n → bit_or (a / 2 ^ k) (a * 2 ^ ((n - k) % n) % 2 ^ n) ≡ a / 2 ^ k + a * 2 ^ (n - k) % 2 ^ n
 right_at n a zero below h =
     let gone : a * 2 ^ (n - 0) % 2 ^ n ≡ 0 = ap (λ (e : ℕ). a * 2 ^ e % 2 ^ n) (sub-zero n) ∙ mul-mod_left a (2 ^ n) in
     let still : a * 2 ^ ((n - 0) % n) % 2 ^ n ≡ a = ap (λ (e : ℕ). a * 2 ^ e % 2 ^ n) (none n) ∙ same n a h in

@@ -8,6 +8,7 @@
 
 mod answer;
 mod divide;
+pub mod laws;
 mod patterns;
 mod shapes;
 mod values;
