@@ -67,6 +67,7 @@ pub div_s-lt : (n a b : ℕ) → a < 2 ^ n → IfOk (idiv_s n a b) (λ r. r < 2 
 div_s-lt n a b h = by (nat_eq b 0) where
   quotient : pattern_of n (int_div (signed_of n a) (signed_of n b)) < 2 ^ n
   quotient = pattern-lt n (int_div (signed_of n a) (signed_of n b)) (small_div (2 ^ n) (signed_of n a) (signed_of n b) (small_signed n a (2 ^ n) (le_refl (2 ^ n)) h))
+
   by : (none : Bool) → IfOk (if none then Err DivideByZero else (if overflows n a b then Err IntegerOverflow else Ok (pattern_of n (int_div (signed_of n a) (signed_of n b))))) (λ r. r < 2 ^ n)
   by true = tt
   by false = unless (2 ^ n) (pattern_of n (int_div (signed_of n a) (signed_of n b))) (overflows n a b) IntegerOverflow quotient
@@ -89,12 +90,12 @@ pub rotl-lt : (n a b : ℕ) → 0 < n → a < 2 ^ n → irotl n a b < 2 ^ n
 rotl-lt n a b some h =
     let k = b % n in
     subst (λ (x : ℕ). x < 2 ^ n) (left_at n a (b % n) (mod_below b n some) h)
-      (or_lt n (a * 2 ^ (b % n) % 2 ^ n) (a / 2 ^ ((n - b % n) % n)) (mod-lt-pow n (a * 2 ^ (b % n))) (shr_u-lt n a ((n - b % n) % n) h))
+    (or_lt n (a * 2 ^ (b % n) % 2 ^ n) (a / 2 ^ ((n - b % n) % n)) (mod-lt-pow n (a * 2 ^ (b % n))) (shr_u-lt n a ((n - b % n) % n) h))
 
 pub rotr-lt : (n a b : ℕ) → 0 < n → a < 2 ^ n → irotr n a b < 2 ^ n
 rotr-lt n a b some h =
     subst (λ (x : ℕ). x < 2 ^ n) (right_at n a (b % n) (mod_below b n some) h)
-      (or_lt n (a / 2 ^ (b % n)) (a * 2 ^ ((n - b % n) % n) % 2 ^ n) (shr_u-lt n a (b % n) h) (mod-lt-pow n (a * 2 ^ ((n - b % n) % n))))
+    (or_lt n (a / 2 ^ (b % n)) (a * 2 ^ ((n - b % n) % n) % 2 ^ n) (shr_u-lt n a (b % n) h) (mod-lt-pow n (a * 2 ^ ((n - b % n) % n))))
 
 -- ---- conversions
 

@@ -46,7 +46,7 @@ left_at n a (suc k) below h =
     let less : n - suc k < n = omega (arith, below) in
     ap (λ (e : ℕ). bit_or (a * 2 ^ suc k % 2 ^ n) (a / 2 ^ e)) (mod-eq_of_lt less)
     ∙ subst (λ (m : ℕ). bit_or (a * 2 ^ suc k % 2 ^ m) (a / 2 ^ (n - suc k)) ≡ a * 2 ^ suc k % 2 ^ m + a / 2 ^ (n - suc k)) sum
-        (left_by a (suc k) (n - suc k) (subst (λ (m : ℕ). a < 2 ^ m) (sym sum) h))
+    (left_by a (suc k) (n - suc k) (subst (λ (m : ℕ). a < 2 ^ m) (sym sum) h))
 
 pub right_at : (n a k : ℕ) → k < n → a < 2 ^ n → bit_or (a / 2 ^ k) (a * 2 ^ ((n - k) % n) % 2 ^ n) ≡ a / 2 ^ k + a * 2 ^ (n - k) % 2 ^ n
 right_at n a zero below h =
@@ -58,7 +58,7 @@ right_at n a (suc k) below h =
     let less : n - suc k < n = omega (arith, below) in
     ap (λ (e : ℕ). bit_or (a / 2 ^ suc k) (a * 2 ^ e % 2 ^ n)) (mod-eq_of_lt less)
     ∙ subst (λ (m : ℕ). bit_or (a / 2 ^ suc k) (a * 2 ^ (n - suc k) % 2 ^ m) ≡ a / 2 ^ suc k + a * 2 ^ (n - suc k) % 2 ^ m) sum
-        (right_by a (suc k) (n - suc k) (subst (λ (m : ℕ). a < 2 ^ m) (sym sum) h))
+    (right_by a (suc k) (n - suc k) (subst (λ (m : ℕ). a < 2 ^ m) (sym sum) h))
 
 -- std's rotations by k bits, where k is below the width
 pub left : (n a k : ℕ) → k < n → a < 2 ^ n → bit_or (a * 2 ^ (k % n) % 2 ^ n) (a / 2 ^ ((n - k % n) % n)) ≡ a * 2 ^ k % 2 ^ n + a / 2 ^ (n - k)

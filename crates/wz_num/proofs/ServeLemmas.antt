@@ -286,4 +286,4 @@ pub numbers_serve : NumbersServe
 unfolding number
 numbers_serve op operands functions types h =
     serves (types_of op).result functions types (meaning_of op) operands (bounded op functions types)
-      (subst (λ (list : List ValType). IsTrue (all_fit operands list functions types)) (taken_is op) h)
+    (subst (λ (list : List ValType). IsTrue (all_fit operands list functions types)) (taken_is op) h)

@@ -13,8 +13,8 @@ pub enum NumAnswer {
     Stuck,
 }
 
-/// A `NumAnswer` in 16 bytes: no operation gives a reference, so the variant is the value's type and
-/// holds its bits.
+/// A `NumAnswer` in 16 bytes: no operation gives a reference, so the variant is the value's type
+/// and holds its bits.
 #[derive(Clone, Copy)]
 pub enum NumResult {
     I32(u32),

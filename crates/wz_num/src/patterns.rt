@@ -1,9 +1,9 @@
 //! The operations on bare patterns, one function for each kind of operands (Core Specification 2.0,
 //! section 4.3).
 //!
-//! Operations that two widths have in common are rows of one table, which each width expands. An
-//! operation that isn't among the arms of the function of its operands would be stuck there, which the
-//! function's clause refuses.
+//! Operations that two widths have in common are rows of one table, which each width expands. The
+//! arms end in a catch-all for the operations of other operands: one that were forgotten would be
+//! stuck, and the function's clause refused.
 
 ghost use Rattle.std.specs.Prelude.{◌≡◌, [], ◌∷◌, Bool};
 ghost use Rattle.wz_types.specs.declared.value.Value.TheVariants as value;
@@ -12,8 +12,8 @@ ghost use Rattle.wz_num.specs.Answers.{answer_of};
 ghost use Rattle.wz_num.specs.Number.{number};
 
 use crate::answer::NumResult;
-use crate::divide::Integer;
 use wz_code::NumOp;
+use wz_types::TrapKind;
 
 #[inline(always)]
 fn truth(holds: bool) -> u32
@@ -25,9 +25,9 @@ fn truth(holds: bool) -> u32
 // ---- the tables: an operation's names at 32 and at 64 bits, and what it makes of its operands
 
 macro_rules! two_integers {
-    ($expand:ident($op:ident) $a:ident $b:ident) => {
-        $expand! {
-            $op, {},
+    ($names:ident($($width:tt)*) $a:ident $b:ident $by:ident) => {
+        $names! {
+            $($width)*, {},
             I32Eq I64Eq: test($a == $b);
             I32Ne I64Ne: test($a != $b);
             I32LtS I64LtS: test($a.cast_signed() < $b.cast_signed());
@@ -41,26 +41,26 @@ macro_rules! two_integers {
             I32Add I64Add: gives($a.wrapping_add($b));
             I32Sub I64Sub: gives($a.wrapping_sub($b));
             I32Mul I64Mul: gives($a.wrapping_mul($b));
-            I32DivS I64DivS: gives_or_traps($a.div_s($b));
-            I32DivU I64DivU: gives_or_traps($a.div_u($b));
-            I32RemS I64RemS: gives_or_traps($a.rem_s($b));
-            I32RemU I64RemU: gives_or_traps($a.rem_u($b));
+            I32DivS I64DivS: div_s($a, $b);
+            I32DivU I64DivU: div_u($a, $b);
+            I32RemS I64RemS: rem_s($a, $b);
+            I32RemU I64RemU: rem_u($a, $b);
             I32And I64And: gives($a & $b);
             I32Or I64Or: gives($a | $b);
             I32Xor I64Xor: gives($a ^ $b);
-            I32Shl I64Shl: gives($a.wrapping_shl($b.shift()));
-            I32ShrS I64ShrS: gives($a.cast_signed().wrapping_shr($b.shift()).cast_unsigned());
-            I32ShrU I64ShrU: gives($a.wrapping_shr($b.shift()));
-            I32Rotl I64Rotl: gives($a.rotate_left($b.shift()));
-            I32Rotr I64Rotr: gives($a.rotate_right($b.shift()));
+            I32Shl I64Shl: gives($a.wrapping_shl($by));
+            I32ShrS I64ShrS: gives($a.cast_signed().wrapping_shr($by).cast_unsigned());
+            I32ShrU I64ShrU: gives($a.wrapping_shr($by));
+            I32Rotl I64Rotl: gives($a.rotate_left($by));
+            I32Rotr I64Rotr: gives($a.rotate_right($by));
         }
     };
 }
 
 macro_rules! one_integer {
-    ($expand:ident($op:ident) $a:ident, $others:tt) => {
-        $expand! {
-            $op, $others,
+    ($names:ident($($width:tt)*) $a:ident, $others:tt) => {
+        $names! {
+            $($width)*, $others,
             I32Eqz I64Eqz: test($a == 0);
             I32Clz I64Clz: counts($a.leading_zeros());
             I32Ctz I64Ctz: counts($a.trailing_zeros());
@@ -72,9 +72,9 @@ macro_rules! one_integer {
 }
 
 macro_rules! one_float {
-    ($expand:ident($op:ident) $a:ident $sign:ident, $others:tt) => {
-        $expand! {
-            $op, $others,
+    ($names:ident($($width:tt)*) $a:ident $sign:ident, $others:tt) => {
+        $names! {
+            $($width)*, $others,
             F32Abs F64Abs: gives($a & !$sign);
             F32Neg F64Neg: gives($a ^ $sign);
             F32Ceil F64Ceil: asks();
@@ -96,9 +96,9 @@ macro_rules! one_float {
 }
 
 macro_rules! two_floats {
-    ($expand:ident($op:ident) $a:ident $b:ident $sign:ident) => {
-        $expand! {
-            $op, {},
+    ($names:ident($($width:tt)*) $a:ident $b:ident $sign:ident) => {
+        $names! {
+            $($width)*, {},
             F32Eq F64Eq: asks();
             F32Ne F64Ne: asks();
             F32Lt F64Lt: asks();
@@ -116,42 +116,28 @@ macro_rules! two_floats {
     };
 }
 
-// ---- a table at one width
+// ---- a table at one width: the result's type, and Rust's types of its patterns and of signed numbers
 
-macro_rules! at_i32 {
-    ($op:ident, { $($others:tt)* }, $($name:ident $wide:ident: $how:ident($($value:expr)?);)*) => {
+macro_rules! narrow {
+    (
+        $op:ident $result:tt, { $($others:tt)* },
+        $($name:ident $wide:ident: $how:ident($($value:expr),*);)*
+    ) => {
         match $op {
-            $(NumOp::$name => $how!(I32 u32 i32, $($value)?),)*
+            $(NumOp::$name => $how!($result, $($value),*),)*
             $($others)*
             _ => NumResult::Stuck,
         }
     };
 }
 
-macro_rules! at_i64 {
-    ($op:ident, { $($others:tt)* }, $($narrow:ident $name:ident: $how:ident($($value:expr)?);)*) => {
+macro_rules! wide {
+    (
+        $op:ident $result:tt, { $($others:tt)* },
+        $($narrow:ident $name:ident: $how:ident($($value:expr),*);)*
+    ) => {
         match $op {
-            $(NumOp::$name => $how!(I64 u64 i64, $($value)?),)*
-            $($others)*
-            _ => NumResult::Stuck,
-        }
-    };
-}
-
-macro_rules! at_f32 {
-    ($op:ident, { $($others:tt)* }, $($name:ident $wide:ident: $how:ident($($value:expr)?);)*) => {
-        match $op {
-            $(NumOp::$name => $how!(F32 u32 i32, $($value)?),)*
-            $($others)*
-            _ => NumResult::Stuck,
-        }
-    };
-}
-
-macro_rules! at_f64 {
-    ($op:ident, { $($others:tt)* }, $($narrow:ident $name:ident: $how:ident($($value:expr)?);)*) => {
-        match $op {
-            $(NumOp::$name => $how!(F64 u64 i64, $($value)?),)*
+            $(NumOp::$name => $how!($result, $($value),*),)*
             $($others)*
             _ => NumResult::Stuck,
         }
@@ -161,40 +147,72 @@ macro_rules! at_f64 {
 // ---- what a row gives
 
 macro_rules! gives {
-    ($type:ident $unsigned:ident $signed:ident, $value:expr) => {
+    (($type:ident $unsigned:ident $signed:ident), $value:expr) => {
         NumResult::$type($value)
     };
 }
 
-macro_rules! gives_or_traps {
-    ($type:ident $unsigned:ident $signed:ident, $value:expr) => {
-        match $value {
-            Ok(value) => NumResult::$type(value),
-            Err(kind) => NumResult::Trap(kind),
+macro_rules! div_u {
+    (($type:ident $unsigned:ident $signed:ident), $dividend:expr, $divisor:expr) => {
+        match $dividend.checked_div($divisor) {
+            Some(value) => NumResult::$type(value),
+            None => NumResult::Trap(TrapKind::DivideByZero),
+        }
+    };
+}
+
+macro_rules! rem_u {
+    (($type:ident $unsigned:ident $signed:ident), $dividend:expr, $divisor:expr) => {
+        match $dividend.checked_rem($divisor) {
+            Some(value) => NumResult::$type(value),
+            None => NumResult::Trap(TrapKind::DivideByZero),
+        }
+    };
+}
+
+macro_rules! div_s {
+    (($type:ident $unsigned:ident $signed:ident), $dividend:expr, $divisor:expr) => {
+        if $divisor == 0 {
+            NumResult::Trap(TrapKind::DivideByZero)
+        } else {
+            match $dividend.cast_signed().checked_div($divisor.cast_signed()) {
+                Some(value) => NumResult::$type(value.cast_unsigned()),
+                None => NumResult::Trap(TrapKind::IntegerOverflow),
+            }
+        }
+    };
+}
+
+macro_rules! rem_s {
+    (($type:ident $unsigned:ident $signed:ident), $dividend:expr, $divisor:expr) => {
+        if $divisor == 0 {
+            NumResult::Trap(TrapKind::DivideByZero)
+        } else {
+            NumResult::$type($dividend.cast_signed().wrapping_rem($divisor.cast_signed()).cast_unsigned())
         }
     };
 }
 
 macro_rules! test {
-    ($type:ident $unsigned:ident $signed:ident, $holds:expr) => {
+    (($type:ident $unsigned:ident $signed:ident), $holds:expr) => {
         NumResult::I32(truth($holds))
     };
 }
 
 macro_rules! counts {
-    ($type:ident $unsigned:ident $signed:ident, $count:expr) => {
+    (($type:ident $unsigned:ident $signed:ident), $count:expr) => {
         NumResult::$type($unsigned::from($count))
     };
 }
 
 macro_rules! extends {
-    ($type:ident $unsigned:ident $signed:ident, $value:expr) => {
+    (($type:ident $unsigned:ident $signed:ident), $value:expr) => {
         NumResult::$type($signed::from($value).cast_unsigned())
     };
 }
 
 macro_rules! asks {
-    ($type:ident $unsigned:ident $signed:ident,) => {
+    (($type:ident $unsigned:ident $signed:ident),) => {
         NumResult::Ask
     };
 }
@@ -207,7 +225,7 @@ macro_rules! asks {
 pub fn two_i32(op: NumOp, a: u32, b: u32) -> NumResult
     ensures { answer_of result ≡ number op (value.I32 a ∷ value.I32 b ∷ []) }
 {
-    two_integers!(at_i32(op) a b)
+    two_integers!(narrow(op(I32 u32 i32)) a b b)
 }
 
 /// An operation on two i64.
@@ -216,7 +234,8 @@ pub fn two_i32(op: NumOp, a: u32, b: u32) -> NumResult
 pub fn two_i64(op: NumOp, a: u64, b: u64) -> NumResult
     ensures { answer_of result ≡ number op (value.I64 a ∷ value.I64 b ∷ []) }
 {
-    two_integers!(at_i64(op) a b)
+    let by = (b % 64) as u32;
+    two_integers!(wide(op(I64 u64 i64)) a b by)
 }
 
 /// An operation on one i32.
@@ -225,8 +244,8 @@ pub fn two_i64(op: NumOp, a: u64, b: u64) -> NumResult
 pub fn one_i32(op: NumOp, a: u32) -> NumResult
     ensures { answer_of result ≡ number op (value.I32 a ∷ []) }
 {
-    one_integer!(at_i32(op) a, {
-        NumOp::I64ExtendI32S => extends!(I64 u64 i64, a.cast_signed()),
+    one_integer!(narrow(op(I32 u32 i32)) a, {
+        NumOp::I64ExtendI32S => extends!((I64 u64 i64), a.cast_signed()),
         NumOp::I64ExtendI32U => NumResult::I64(u64::from(a)),
         NumOp::F32ReinterpretI32 => NumResult::F32(a),
         NumOp::F32ConvertI32S => NumResult::Ask,
@@ -242,8 +261,8 @@ pub fn one_i32(op: NumOp, a: u32) -> NumResult
 pub fn one_i64(op: NumOp, a: u64) -> NumResult
     ensures { answer_of result ≡ number op (value.I64 a ∷ []) }
 {
-    one_integer!(at_i64(op) a, {
-        NumOp::I64Extend32S => extends!(I64 u64 i64, ((a % 0x1_0000_0000) as u32).cast_signed()),
+    one_integer!(wide(op(I64 u64 i64)) a, {
+        NumOp::I64Extend32S => extends!((I64 u64 i64), ((a % 0x1_0000_0000) as u32).cast_signed()),
         NumOp::I32WrapI64 => NumResult::I32((a % 0x1_0000_0000) as u32),
         NumOp::F64ReinterpretI64 => NumResult::F64(a),
         NumOp::F32ConvertI64S => NumResult::Ask,
@@ -263,7 +282,7 @@ const SIGN_64: u64 = 0x8000_0000_0000_0000;
 pub fn one_f32(op: NumOp, a: u32) -> NumResult
     ensures { answer_of result ≡ number op (value.F32 a ∷ []) }
 {
-    one_float!(at_f32(op) a SIGN_32, {
+    one_float!(narrow(op(F32 u32 i32)) a SIGN_32, {
         NumOp::I32ReinterpretF32 => NumResult::I32(a),
     })
 }
@@ -274,7 +293,7 @@ pub fn one_f32(op: NumOp, a: u32) -> NumResult
 pub fn one_f64(op: NumOp, a: u64) -> NumResult
     ensures { answer_of result ≡ number op (value.F64 a ∷ []) }
 {
-    one_float!(at_f64(op) a SIGN_64, {
+    one_float!(wide(op(F64 u64 i64)) a SIGN_64, {
         NumOp::I64ReinterpretF64 => NumResult::I64(a),
     })
 }
@@ -285,7 +304,7 @@ pub fn one_f64(op: NumOp, a: u64) -> NumResult
 pub fn two_f32(op: NumOp, a: u32, b: u32) -> NumResult
     ensures { answer_of result ≡ number op (value.F32 a ∷ value.F32 b ∷ []) }
 {
-    two_floats!(at_f32(op) a b SIGN_32)
+    two_floats!(narrow(op(F32 u32 i32)) a b SIGN_32)
 }
 
 /// An operation on two f64.
@@ -294,5 +313,5 @@ pub fn two_f32(op: NumOp, a: u32, b: u32) -> NumResult
 pub fn two_f64(op: NumOp, a: u64, b: u64) -> NumResult
     ensures { answer_of result ≡ number op (value.F64 a ∷ value.F64 b ∷ []) }
 {
-    two_floats!(at_f64(op) a b SIGN_64)
+    two_floats!(wide(op(F64 u64 i64)) a b SIGN_64)
 }

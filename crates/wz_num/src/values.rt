@@ -36,8 +36,8 @@ fn eval_two(op: NumOp, first: Value, second: Value) -> NumAnswer
     }
 }
 
-/// The answer of an operation on operands in the order of pushing: `Ask` exactly for the operations on
-/// floats that do more than move bits, `Stuck` exactly where the operands aren't of its types.
+/// The answer of an operation on operands in the order of pushing: `Ask` exactly for the operations
+/// on floats that do more than move bits, `Stuck` exactly where the operands aren't of its types.
 #[tactic(auto, unfolding(crate::specs::Number::number))]
 pub fn eval(op: NumOp, operands: &[Value]) -> NumAnswer
     ensures { result ≡ number op operands.now }
