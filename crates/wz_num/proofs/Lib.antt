@@ -2,3 +2,4 @@ mod PatternLemmas
 mod StuckLemmas
 mod BoundLemmas
 mod ServeLemmas
+mod WordLemmas

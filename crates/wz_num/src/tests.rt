@@ -23,28 +23,28 @@ fn value_of(kind: ValType, pattern: u64) -> Value {
 
 /// What a letter of the tables stands for, by the least signed pattern and the number of bits.
 fn result_of(letter: u8, kind: ValType, least: u64, bits: u64) -> NumAnswer {
-    let greatest = least - 1;
+    let half = least / 2;
     let pattern = match letter {
         b'0' => 0,
         b'1' => 1,
         b'2' => 2,
         b'n' => bits,
-        b'h' => bits - 1,
+        b'h' => bits.wrapping_sub(1),
         // the greatest pattern, and the one before
-        b'm' => greatest.wrapping_add(least),
-        b'k' => greatest.wrapping_add(greatest),
+        b'm' => least.wrapping_add(least).wrapping_sub(1),
+        b'k' => least.wrapping_add(least).wrapping_sub(2),
         // the least signed one, and those after it
         b'l' => least,
-        b'a' => least + 1,
-        b'b' => least + 2,
+        b'a' => least.wrapping_add(1),
+        b'b' => least.wrapping_add(2),
         // the greatest signed one, and the one before
-        b'g' => greatest,
-        b'f' => greatest - 1,
-        // a half of the least one, the number before, and both with the other sign
-        b'q' => least / 2,
-        b'p' => least / 2 - 1,
-        b'Q' => least + least / 2,
-        b'P' => least + least / 2 - 1,
+        b'g' => least.wrapping_sub(1),
+        b'f' => least.wrapping_sub(2),
+        // a half of the least one and the number before, without and with the top bit
+        b'q' => half,
+        b'p' => half.wrapping_sub(1),
+        b'Q' => half.wrapping_add(least),
+        b'P' => half.wrapping_add(least).wrapping_sub(1),
         b'z' => return NumAnswer::Trap(TrapKind::DivideByZero),
         b'o' => return NumAnswer::Trap(TrapKind::IntegerOverflow),
         _ => return NumAnswer::Stuck,
@@ -58,8 +58,13 @@ const LEAST_64: u64 = 0x8000_0000_0000_0000;
 
 /// 0, 1, the greatest pattern, the least and the greatest signed one.
 fn samples(least: u64) -> [u64; 5] {
-    let greatest = least - 1;
-    [0, 1, greatest.wrapping_add(least), least, greatest]
+    [
+        0,
+        1,
+        least.wrapping_add(least).wrapping_sub(1),
+        least,
+        least.wrapping_sub(1),
+    ]
 }
 
 // A row has a group for each first operand, in the order of `samples`, and in it a letter for each
