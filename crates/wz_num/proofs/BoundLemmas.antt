@@ -1,5 +1,5 @@
 -- Each operation on patterns of n bits gives a pattern of its result's width.
-use Rattle.std.proofs.Common.{◌≡◌, ℕ, zero, suc, ◌+◌, ◌-◌, ◌*◌, ◌/◌, ◌%◌, ◌^◌, ◌<◌, ◌≤◌, Bool, true, false, if◌then◌else◌, nat_eq, nat_lt, ℤ, pos, negsuc, Result, Ok, Err, IfOk, refl, subst, arith, le_refl, lt_of_le_of_lt}
+use Rattle.std.proofs.Common.{◌≡◌, ℕ, zero, suc, ◌+◌, ◌-◌, ◌*◌, ◌/◌, ◌%◌, ◌^◌, ◌<◌, ◌≤◌, Bool, true, false, if◌then◌else◌, nat_eq, nat_lt, ℤ, pos, negsuc, Ok, Err, IfOk, refl, subst, arith, le_refl, lt_of_le_of_lt}
 use Rattle.std.specs.Prelude.{int_div, int_rem, unsigned_abs, neg_ℤ}
 use Rattle.std.specs.Int.{int_shr}
 use Rattle.std.proofs.lemmas.Bool.{ltb-false}
@@ -63,14 +63,16 @@ div_u-lt n a b h = unless (2 ^ n) (a / b) (nat_eq b 0) DivideByZero (lt_of_le_of
 pub rem_u-lt : (n a b : ℕ) → a < 2 ^ n → IfOk (irem_u n a b) (λ r. r < 2 ^ n)
 rem_u-lt n a b h = unless (2 ^ n) (a % b) (nat_eq b 0) DivideByZero (lt_of_le_of_lt (mod-le a b) h)
 
-pub div_s-lt : (n a b : ℕ) → a < 2 ^ n → IfOk (idiv_s n a b) (λ r. r < 2 ^ n)
-div_s-lt n a b h = by (nat_eq b 0) where
-  quotient : pattern_of n (int_div (signed_of n a) (signed_of n b)) < 2 ^ n
-  quotient = pattern-lt n (int_div (signed_of n a) (signed_of n b)) (small_div (2 ^ n) (signed_of n a) (signed_of n b) (small_signed n a (2 ^ n) (le_refl (2 ^ n)) h))
+unless_either : (limit x : ℕ) (none over : Bool) → x < limit
+    → IfOk (if none then Err DivideByZero else (if over then Err IntegerOverflow else Ok x)) (λ r. r < limit)
+unless_either limit x true over h = tt
+unless_either limit x false over h = unless limit x over IntegerOverflow h
 
-  by : (none : Bool) → IfOk (if none then Err DivideByZero else (if overflows n a b then Err IntegerOverflow else Ok (pattern_of n (int_div (signed_of n a) (signed_of n b))))) (λ r. r < 2 ^ n)
-  by true = tt
-  by false = unless (2 ^ n) (pattern_of n (int_div (signed_of n a) (signed_of n b))) (overflows n a b) IntegerOverflow quotient
+pub div_s-lt : (n a b : ℕ) → a < 2 ^ n → IfOk (idiv_s n a b) (λ r. r < 2 ^ n)
+div_s-lt n a b h =
+    let quotient = small_div (2 ^ n) (signed_of n a) (signed_of n b) (small_signed n a (2 ^ n) (le_refl (2 ^ n)) h) in
+    unless_either (2 ^ n) (pattern_of n (int_div (signed_of n a) (signed_of n b))) (nat_eq b 0) (overflows n a b)
+    (pattern-lt n (int_div (signed_of n a) (signed_of n b)) quotient)
 
 pub rem_s-lt : (n a b : ℕ) → a < 2 ^ n → IfOk (irem_s n a b) (λ r. r < 2 ^ n)
 rem_s-lt n a b h =

@@ -1,5 +1,5 @@
 -- Operands of an operation's types are answered by a value of its result's type, a trap or a question.
-use Rattle.std.proofs.Common.{◌≡◌, ℕ, ◌<◌, ◌≤◌, ◌^◌, ◌%◌, ◌*◌, ◌+◌, nat_lt, nat_eq, List, [], ◌∷◌, Option, Some, None, Result, Ok, Err, IfOk, IsTrue, Bool, true, false, ◌&&◌, true≢false, sym, ap, ap₂, ◌∙◌, refl, subst, arith, lt_of_le_of_lt}
+use Rattle.std.proofs.Common.{◌≡◌, ℕ, ◌<◌, ◌^◌, ◌%◌, nat_lt, List, [], ◌∷◌, Result, Ok, Err, IfOk, IsTrue, Bool, true, false, true≢false, sym, ap, ap₂, ◌∙◌, refl, subst, arith, lt_of_le_of_lt}
 use Rattle.std.proofs.lemmas.Bool.{ltb-true, lt-ltb}
 use Rattle.std.proofs.lemmas.Nat.{and_le_l, or_lt, xor_lt, leading_le, trailing_le, ones-le}
 use Rattle.wz_types.specs.declared.trap.TrapKind.{TrapKind}

@@ -1,14 +1,14 @@
 -- What std says of the words that the definitions of integer operations use.
-use Rattle.std.proofs.Common.{◌≡◌, ℕ, zero, suc, ◌+◌, ◌-◌, ◌/◌, ◌%◌, ◌^◌, ◌<◌, ◌≤◌, Bool, true, false, if◌then◌else◌, nat_lt, pos, negsuc, ◌-ℤ◌, ◌*◌, refl, sym, subst, ap, ◌∙◌, arith, add-one}
-use Rattle.std.specs.Int.{Width, w8, w16, w32, w64, w128, trailing_zeros}
+use Rattle.std.proofs.Common.{◌≡◌, ℕ, zero, suc, ◌+◌, ◌-◌, ◌^◌, ◌<◌, ◌≤◌, Bool, true, false, if◌then◌else◌, nat_lt, pos, negsuc, ◌-ℤ◌, refl, sym, subst, ap, ◌∙◌, arith, add-one}
+use Rattle.std.specs.Int.{trailing_zeros}
 use Rattle.std.specs.Int.Count.{count_leading_zeros, count_trailing_zeros, ones, ones_step}
 use Rattle.std.proofs.lemmas.Bool.{lt-ltb, le-ltb}
 use Rattle.std.proofs.lemmas.Int.{ints, quot-rem, rem_below}
-use Rattle.std.proofs.lemmas.Nat.{pow_pos, leading_top}
+use Rattle.std.proofs.lemmas.Nat.{leading_top}
 use Rattle.std.proofs.lemmas.Nat.Bits.{bit_at_and, bit_at_or, bit_at_xor, bit_at-trailing_zeros}
 use mir.Val.{bits}
 use Rattle.wz_num.specs.Integers.{signed_of, pattern_of, iclz, ictz}
-use Rattle.wz_num.specs.Laws.{HasSign, SignsAreExact, QuotientsAreExact, BitsAreExact, HasHighest, LeadingZerosAreExact, TrailingZerosAreExact, OnesAreExact}
+use Rattle.wz_num.specs.Laws.{SignsAreExact, QuotientsAreExact, BitsAreExact, HasHighest, LeadingZerosAreExact, TrailingZerosAreExact, OnesAreExact}
 
 signed_low : (n i : ℕ) → i < 2 ^ (n - 1) → signed_of n i ≡ pos i
 signed_low n i h = ap (λ (b : Bool). if b then pos i else negsuc (2 ^ n - (i + 1))) (lt-ltb i (2 ^ (n - 1)) h)

@@ -1,8 +1,7 @@
 -- Section 4.4.1 of the Core Specification, for a machine: a small answer, and the types of the operands by their number and type.
-use Rattle.std.specs.Prelude.{◌≡◌, List, [], ◌∷◌, Option, Some, None}
+use Rattle.std.specs.Prelude.{Option, Some, None}
 use Rattle.wz_types.specs.declared.types.ValType.{ValType}
 use Rattle.wz_types.specs.declared.types.ValType.TheVariants as type
-use Rattle.wz_types.specs.declared.value.Value.{Value}
 use Rattle.wz_types.specs.declared.value.Value.TheVariants as value
 use Rattle.wz_num.specs.declared.answer.NumAnswer.{NumAnswer}
 use Rattle.wz_num.specs.declared.answer.NumAnswer.TheVariants as answer

@@ -1,12 +1,11 @@
 -- What holds of the numeric operations (sections 3.3.1, 4.3 and 4.4.1 of the Core Specification), for the crates above.
-use Rattle.std.specs.Prelude.{◌≡◌, ℕ, ◌+◌, ◌-◌, ◌*◌, ◌/◌, ◌%◌, ◌^◌, ◌<◌, ◌≤◌, min, max, ℤ, pos, ◌+ℤ◌, ◌-ℤ◌, ◌*ℤ◌, int_div, int_rem, unsigned_abs, List, [], ◌∷◌, Option, Some, None, IsTrue}
+use Rattle.std.specs.Prelude.{◌≡◌, ℕ, ◌+◌, ◌-◌, ◌/◌, ◌%◌, ◌^◌, ◌<◌, ◌≤◌, min, max, ℤ, pos, ◌+ℤ◌, ◌-ℤ◌, ◌*ℤ◌, int_div, int_rem, unsigned_abs, List, [], ◌∷◌, Option, Some, None, IsTrue}
 use Rattle.std.specs.Int.{Width, bit_at}
 use mir.Val.{bits}
 use Rattle.wz_types.specs.declared.types.ValType.{ValType}
 use Rattle.wz_types.specs.declared.value.Value.{Value}
 use Rattle.wz_types.specs.Fits.{Fits, all_fit}
 use Rattle.wz_code.specs.declared.numeric.NumOp.{NumOp}
-use Rattle.wz_code.specs.declared.numeric.OpTypes.{OpTypes}
 use Rattle.wz_code.specs.Numeric.{types_of}
 use Rattle.wz_num.specs.declared.answer.NumAnswer.{NumAnswer}
 use Rattle.wz_num.specs.declared.answer.NumAnswer.TheVariants.{Gives, Trap, Ask, Stuck}

@@ -12,8 +12,8 @@ pub fn operands_are_served()
     ensures { NumbersServe }
 {}
 
-/// The words of std in the definitions are those of the standard: the signed interpretation, division
-/// towards zero, the three operations bit by bit, and the counts of zeros and ones.
+/// The words of std in the definitions are those of the standard: the signed interpretation,
+/// division towards zero, the three operations bit by bit, and the counts of zeros and ones.
 pub fn words_are_exact()
     ensures signs { SignsAreExact }
     ensures quotients { QuotientsAreExact }

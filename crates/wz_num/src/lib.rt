@@ -2,8 +2,9 @@
 //!
 //! `eval` answers an operation on a list of operands: it gives a value, traps, asks the environment
 //! (as most operations on floats do), or is stuck on operands of other types. It is made of one
-//! function for each kind of operands (`two_i32`, `one_i64`, ..), which takes bare patterns and gives
-//! a small answer; a machine that knows which operands it has calls these. All are the same `number`.
+//! function for each kind of operands (`two_i32`, `one_i64`, ..), which takes bare patterns and
+//! gives a small answer; a machine that knows which operands it has calls these. All of them are the
+//! same `number`.
 #![tactic(auto)]
 
 mod answer;

@@ -24,6 +24,7 @@ fn truth(holds: bool) -> u32
 
 // ---- the tables: an operation's names at 32 and at 64 bits, and what it makes of its operands
 
+// `by` is the second operand as a number of bits: Rust's shifts and rotations take it modulo the width.
 macro_rules! two_integers {
     ($names:ident($($width:tt)*) $a:ident $b:ident $by:ident) => {
         $names! {
@@ -116,7 +117,7 @@ macro_rules! two_floats {
     };
 }
 
-// ---- a table at one width: the result's type, and Rust's types of its patterns and of signed numbers
+// ---- a table at one width: with the result's type, and Rust's types of its patterns and numbers
 
 macro_rules! narrow {
     (
@@ -188,7 +189,8 @@ macro_rules! rem_s {
         if $divisor == 0 {
             NumResult::Trap(TrapKind::DivideByZero)
         } else {
-            NumResult::$type($dividend.cast_signed().wrapping_rem($divisor.cast_signed()).cast_unsigned())
+            let rest = $dividend.cast_signed().wrapping_rem($divisor.cast_signed());
+            NumResult::$type(rest.cast_unsigned())
         }
     };
 }

@@ -1,8 +1,7 @@
-use Rattle.std.proofs.Common.{rules, ◌≡◌, ℕ, ◌<◌, ◌%◌, ap, ◌∙◌, arith, w64}
-use Rattle.std.specs.Int.{rotate_left, rotate_right}
+use Rattle.std.proofs.Common.{rules, ◌≡◌, ℕ, ◌<◌, ◌%◌, ◌∙◌, arith}
 use Rattle.wz_num.specs.Integers.{irotl, irotr}
 use Rattle.wz_num.specs.Number.{number}
-use Rattle.wz_num.proofs.PatternLemmas.{left_at, right_at, left, right}
+use Rattle.wz_num.proofs.PatternLemmas.{left, right}
 use Rattle.wz_num.proofs.patterns.two_i64.Goals as goal
 
 below : (b : ℕ) → b % 64 < 64
