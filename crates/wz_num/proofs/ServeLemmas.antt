@@ -23,7 +23,7 @@ use Rattle.wz_num.specs.Integers.{iadd, isub, imul, idiv_u, idiv_s, irem_u, irem
 use Rattle.wz_num.specs.Integers.{iclz, ictz, ipopcnt, ieqz, ieq, ine, ilt_u, ilt_s, igt_u, igt_s, ile_u, ile_s, ige_u, ige_s}
 use Rattle.wz_num.specs.Floats.{fabs, fneg, fcopysign}
 use Rattle.wz_num.specs.Conversions.{wrap, extend_u, extend_s, iextend_s, reinterpret}
-use Rattle.wz_num.specs.Laws.{taken_by, Serves, NumbersServe}
+use Rattle.wz_num.specs.Laws.{operand_types, AnswerServes, NumbersServe}
 use Rattle.wz_num.proofs.BoundLemmas.{truth-lt, div_u-lt, div_s-lt, rem_u-lt, rem_s-lt, mod-lt-pow, shr_u-lt, shr_s-lt, rotl-lt, rotr-lt, extend_s-lt}
 
 -- ---- from the list of operands to their patterns
@@ -40,10 +40,10 @@ types_taken (TwoF64 f) = type.F64 ∷ type.F64 ∷ []
 
 -- what the operation makes of any patterns of the width serves
 abbrev OneServes : ℕ → ValType → ℕ → ℕ → (ℕ → NumAnswer) → Type 0
-OneServes n result functions types f = (a : ℕ) → a < 2 ^ n → Serves result functions types (f a)
+OneServes n result functions types f = (a : ℕ) → a < 2 ^ n → AnswerServes result functions types (f a)
 
 abbrev TwoServe : ℕ → ValType → ℕ → ℕ → (ℕ → ℕ → NumAnswer) → Type 0
-TwoServe n result functions types f = (a b : ℕ) → a < 2 ^ n → b < 2 ^ n → Serves result functions types (f a b)
+TwoServe n result functions types f = (a b : ℕ) → a < 2 ^ n → b < 2 ^ n → AnswerServes result functions types (f a b)
 
 abbrev MeaningServes : ValType → ℕ → ℕ → Meaning → Type 0
 MeaningServes result functions types (OneI32 f) = OneServes 32 result functions types f
@@ -111,54 +111,54 @@ two_fit (a ∷ rest) first second functions types h =
     (a, q.0, ap (λ (list : List Value). a ∷ list) q.1, p.0, q.2)
 
 serves : (result : ValType) (functions types : ℕ) (meaning : Meaning) (operands : List Value) → MeaningServes result functions types meaning
-    → IsTrue (all_fit operands (types_taken meaning) functions types) → Serves result functions types (meant meaning operands)
+    → IsTrue (all_fit operands (types_taken meaning) functions types) → AnswerServes result functions types (meant meaning operands)
 serves result functions types (OneI32 f) operands each h =
     let p = one_fits operands type.I32 functions types h in
     let a = read_i32 p.0 functions types p.2 in
-    subst (λ (list : List Value). Serves result functions types (meant (OneI32 f) list)) (sym (p.1 ∙ ap (λ (x : Value). x ∷ []) a.1)) (each a.0 a.2)
+    subst (λ (list : List Value). AnswerServes result functions types (meant (OneI32 f) list)) (sym (p.1 ∙ ap (λ (x : Value). x ∷ []) a.1)) (each a.0 a.2)
 serves result functions types (OneI64 f) operands each h =
     let p = one_fits operands type.I64 functions types h in
     let a = read_i64 p.0 functions types p.2 in
-    subst (λ (list : List Value). Serves result functions types (meant (OneI64 f) list)) (sym (p.1 ∙ ap (λ (x : Value). x ∷ []) a.1)) (each a.0 a.2)
+    subst (λ (list : List Value). AnswerServes result functions types (meant (OneI64 f) list)) (sym (p.1 ∙ ap (λ (x : Value). x ∷ []) a.1)) (each a.0 a.2)
 serves result functions types (OneF32 f) operands each h =
     let p = one_fits operands type.F32 functions types h in
     let a = read_f32 p.0 functions types p.2 in
-    subst (λ (list : List Value). Serves result functions types (meant (OneF32 f) list)) (sym (p.1 ∙ ap (λ (x : Value). x ∷ []) a.1)) (each a.0 a.2)
+    subst (λ (list : List Value). AnswerServes result functions types (meant (OneF32 f) list)) (sym (p.1 ∙ ap (λ (x : Value). x ∷ []) a.1)) (each a.0 a.2)
 serves result functions types (OneF64 f) operands each h =
     let p = one_fits operands type.F64 functions types h in
     let a = read_f64 p.0 functions types p.2 in
-    subst (λ (list : List Value). Serves result functions types (meant (OneF64 f) list)) (sym (p.1 ∙ ap (λ (x : Value). x ∷ []) a.1)) (each a.0 a.2)
+    subst (λ (list : List Value). AnswerServes result functions types (meant (OneF64 f) list)) (sym (p.1 ∙ ap (λ (x : Value). x ∷ []) a.1)) (each a.0 a.2)
 serves result functions types (TwoI32 f) operands each h =
     let p = two_fit operands type.I32 type.I32 functions types h in
     let a = read_i32 p.0 functions types p.3 in
     let b = read_i32 p.1 functions types p.4 in
-    subst (λ (list : List Value). Serves result functions types (meant (TwoI32 f) list)) (sym (p.2 ∙ ap₂ (λ (x y : Value). x ∷ y ∷ []) a.1 b.1)) (each a.0 b.0 a.2 b.2)
+    subst (λ (list : List Value). AnswerServes result functions types (meant (TwoI32 f) list)) (sym (p.2 ∙ ap₂ (λ (x y : Value). x ∷ y ∷ []) a.1 b.1)) (each a.0 b.0 a.2 b.2)
 serves result functions types (TwoI64 f) operands each h =
     let p = two_fit operands type.I64 type.I64 functions types h in
     let a = read_i64 p.0 functions types p.3 in
     let b = read_i64 p.1 functions types p.4 in
-    subst (λ (list : List Value). Serves result functions types (meant (TwoI64 f) list)) (sym (p.2 ∙ ap₂ (λ (x y : Value). x ∷ y ∷ []) a.1 b.1)) (each a.0 b.0 a.2 b.2)
+    subst (λ (list : List Value). AnswerServes result functions types (meant (TwoI64 f) list)) (sym (p.2 ∙ ap₂ (λ (x y : Value). x ∷ y ∷ []) a.1 b.1)) (each a.0 b.0 a.2 b.2)
 serves result functions types (TwoF32 f) operands each h =
     let p = two_fit operands type.F32 type.F32 functions types h in
     let a = read_f32 p.0 functions types p.3 in
     let b = read_f32 p.1 functions types p.4 in
-    subst (λ (list : List Value). Serves result functions types (meant (TwoF32 f) list)) (sym (p.2 ∙ ap₂ (λ (x y : Value). x ∷ y ∷ []) a.1 b.1)) (each a.0 b.0 a.2 b.2)
+    subst (λ (list : List Value). AnswerServes result functions types (meant (TwoF32 f) list)) (sym (p.2 ∙ ap₂ (λ (x y : Value). x ∷ y ∷ []) a.1 b.1)) (each a.0 b.0 a.2 b.2)
 serves result functions types (TwoF64 f) operands each h =
     let p = two_fit operands type.F64 type.F64 functions types h in
     let a = read_f64 p.0 functions types p.3 in
     let b = read_f64 p.1 functions types p.4 in
-    subst (λ (list : List Value). Serves result functions types (meant (TwoF64 f) list)) (sym (p.2 ∙ ap₂ (λ (x y : Value). x ∷ y ∷ []) a.1 b.1)) (each a.0 b.0 a.2 b.2)
+    subst (λ (list : List Value). AnswerServes result functions types (meant (TwoF64 f) list)) (sym (p.2 ∙ ap₂ (λ (x y : Value). x ∷ y ∷ []) a.1 b.1)) (each a.0 b.0 a.2 b.2)
 
 -- ---- from the bounds to the results
 
 fits : (r limit : ℕ) → r < limit → IsTrue (nat_lt r limit)
 fits r limit h = lt-ltb r limit h
 
-i32_quotient : (functions types : ℕ) (r : Result ℕ TrapKind) → IfOk r (λ x. x < 2 ^ 32) → Serves type.I32 functions types (i32_or_trap r)
+i32_quotient : (functions types : ℕ) (r : Result ℕ TrapKind) → IfOk r (λ x. x < 2 ^ 32) → AnswerServes type.I32 functions types (i32_or_trap r)
 i32_quotient functions types (Ok x) h = fits x (2 ^ 32) h
 i32_quotient functions types (Err kind) h = tt
 
-i64_quotient : (functions types : ℕ) (r : Result ℕ TrapKind) → IfOk r (λ x. x < 2 ^ 64) → Serves type.I64 functions types (i64_or_trap r)
+i64_quotient : (functions types : ℕ) (r : Result ℕ TrapKind) → IfOk r (λ x. x < 2 ^ 64) → AnswerServes type.I64 functions types (i64_or_trap r)
 i64_quotient functions types (Ok x) h = fits x (2 ^ 64) h
 i64_quotient functions types (Err kind) h = tt
 
@@ -278,7 +278,7 @@ bounded op.I64TruncSatF64S functions types = λ a p. tt
 bounded op.I64TruncSatF64U functions types = λ a p. tt
 bounded op functions types = λ a b p q. tt
 
-taken_is : (op : NumOp) → taken_by op ≡ types_taken (meaning_of op)
+taken_is : (op : NumOp) → operand_types op ≡ types_taken (meaning_of op)
 taken_is op.I32Eqz = refl
 taken_is op = refl
 

@@ -7,8 +7,8 @@ use Rattle.wz_num.specs.declared.answer.NumAnswer.{NumAnswer}
 use Rattle.wz_num.specs.declared.answer.NumAnswer.TheVariants as answer
 use Rattle.wz_num.specs.declared.answer.NumResult.{NumResult}
 use Rattle.wz_num.specs.declared.answer.NumResult.TheVariants.{I32, I64, F32, F64, Trap, Ask, Stuck}
-use Rattle.wz_num.specs.declared.shapes.Operands.{Operands}
-use Rattle.wz_num.specs.declared.shapes.Operands.TheVariants as operands
+use Rattle.wz_num.specs.declared.shapes.OperandShape.{OperandShape}
+use Rattle.wz_num.specs.declared.shapes.OperandShape.TheVariants as shape
 
 -- the answer that the small one stands for
 abbrev pub answer_of : NumResult → NumAnswer
@@ -21,22 +21,22 @@ answer_of Ask = answer.Ask
 answer_of Stuck = answer.Stuck
 
 -- the type of the operand that was pushed first, and of the second one
-abbrev pub first_of : Operands → ValType
-first_of operands.OneI32 = type.I32
-first_of operands.OneI64 = type.I64
-first_of operands.OneF32 = type.F32
-first_of operands.OneF64 = type.F64
-first_of operands.TwoI32 = type.I32
-first_of operands.TwoI64 = type.I64
-first_of operands.TwoF32 = type.F32
-first_of operands.TwoF64 = type.F64
+abbrev pub first_of : OperandShape → ValType
+first_of shape.OneI32 = type.I32
+first_of shape.OneI64 = type.I64
+first_of shape.OneF32 = type.F32
+first_of shape.OneF64 = type.F64
+first_of shape.TwoI32 = type.I32
+first_of shape.TwoI64 = type.I64
+first_of shape.TwoF32 = type.F32
+first_of shape.TwoF64 = type.F64
 
-abbrev pub second_of : Operands → Option ValType
-second_of operands.OneI32 = None
-second_of operands.OneI64 = None
-second_of operands.OneF32 = None
-second_of operands.OneF64 = None
-second_of operands.TwoI32 = Some type.I32
-second_of operands.TwoI64 = Some type.I64
-second_of operands.TwoF32 = Some type.F32
-second_of operands.TwoF64 = Some type.F64
+abbrev pub second_of : OperandShape → Option ValType
+second_of shape.OneI32 = None
+second_of shape.OneI64 = None
+second_of shape.OneF32 = None
+second_of shape.OneF64 = None
+second_of shape.TwoI32 = Some type.I32
+second_of shape.TwoI64 = Some type.I64
+second_of shape.TwoF32 = Some type.F32
+second_of shape.TwoF64 = Some type.F64

@@ -13,24 +13,24 @@ use Rattle.wz_num.specs.Integers.{signed_of, pattern_of, iand, ior, ixor, iclz, 
 use Rattle.wz_num.specs.Number.{number}
 
 -- the types of the operands, in the order of pushing
-abbrev pub taken : ValType → Option ValType → List ValType
-taken first None = first ∷ []
-taken first (Some second) = first ∷ second ∷ []
+abbrev pub listed_types : ValType → Option ValType → List ValType
+listed_types first None = first ∷ []
+listed_types first (Some second) = first ∷ second ∷ []
 
-abbrev pub taken_by : NumOp → List ValType
-taken_by op = taken (types_of op).first (types_of op).second
+abbrev pub operand_types : NumOp → List ValType
+operand_types op = listed_types (types_of op).first (types_of op).second
 
 -- a value that fits the type, a trap or a question
-abbrev pub Serves : ValType → ℕ → ℕ → NumAnswer → Type 0
-Serves type functions types (Gives value) = Fits value type functions types
-Serves type functions types (Trap kind) = Unit {0}
-Serves type functions types Ask = Unit {0}
-Serves type functions types Stuck = ⊥
+abbrev pub AnswerServes : ValType → ℕ → ℕ → NumAnswer → Type 0
+AnswerServes type functions types (Gives value) = Fits value type functions types
+AnswerServes type functions types (Trap kind) = Unit {0}
+AnswerServes type functions types Ask = Unit {0}
+AnswerServes type functions types Stuck = ⊥
 
 -- operands that fit what the operation takes are never stuck, and what it gives fits its result
 abbrev pub NumbersServe : Type 0
-NumbersServe = (op : NumOp) (operands : List Value) (functions types : ℕ) → IsTrue (all_fit operands (taken_by op) functions types)
-    → Serves (types_of op).result functions types (number op operands)
+NumbersServe = (op : NumOp) (operands : List Value) (functions types : ℕ) → IsTrue (all_fit operands (operand_types op) functions types)
+    → AnswerServes (types_of op).result functions types (number op operands)
 
 -- ---- std's words in the definitions of section 4.3.2
 

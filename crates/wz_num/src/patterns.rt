@@ -24,7 +24,7 @@ fn truth(holds: bool) -> u32
 
 // ---- the tables: an operation's names at 32 and at 64 bits, and what it makes of its operands
 
-// `by` is the second operand as a number of bits: Rust's shifts and rotations take it modulo the width.
+// `by` is the second operand as a number of bits, which shifts and rotations take modulo the width.
 macro_rules! two_integers {
     ($names:ident($($width:tt)*) $a:ident $b:ident $by:ident) => {
         $names! {

@@ -9,7 +9,7 @@ use wz_types::ValType;
 
 /// The operands of an operation: one, or two of the same type.
 #[derive(Clone, Copy, PartialEq, Eq)]
-pub enum Operands {
+pub enum OperandShape {
     OneI32,
     OneI64,
     OneF32,
@@ -22,7 +22,7 @@ pub enum Operands {
 
 /// Which function on patterns answers the operation: each is stuck on the others' operations.
 #[inline]
-pub fn operands_of(op: NumOp) -> Operands
+pub fn operand_shape(op: NumOp) -> OperandShape
     ensures first { first_of result ≡ (types_of op).first }
     ensures second { second_of result ≡ (types_of op).second }
 {
@@ -32,14 +32,14 @@ pub fn operands_of(op: NumOp) -> Operands
         result: _,
     } = signature(op);
     match (first, second) {
-        (ValType::I32, None) => Operands::OneI32,
-        (ValType::I64, None) => Operands::OneI64,
-        (ValType::F32, None) => Operands::OneF32,
-        (ValType::F64, None) => Operands::OneF64,
-        (ValType::I32, Some(_)) => Operands::TwoI32,
-        (ValType::I64, Some(_)) => Operands::TwoI64,
-        (ValType::F32, Some(_)) => Operands::TwoF32,
-        (ValType::F64, Some(_)) => Operands::TwoF64,
+        (ValType::I32, None) => OperandShape::OneI32,
+        (ValType::I64, None) => OperandShape::OneI64,
+        (ValType::F32, None) => OperandShape::OneF32,
+        (ValType::F64, None) => OperandShape::OneF64,
+        (ValType::I32, Some(_)) => OperandShape::TwoI32,
+        (ValType::I64, Some(_)) => OperandShape::TwoI64,
+        (ValType::F32, Some(_)) => OperandShape::TwoF32,
+        (ValType::F64, Some(_)) => OperandShape::TwoF64,
         // no operation takes a reference
         (ValType::FuncRef | ValType::ExternRef, _) => unreachable!(),
     }

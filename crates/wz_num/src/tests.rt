@@ -3,7 +3,7 @@
 
 use crate::answer::NumAnswer;
 use crate::patterns::two_i32;
-use crate::shapes::{Operands, operands_of};
+use crate::shapes::{OperandShape, operand_shape};
 use crate::values::eval;
 use wz_code::{NumOp, from_opcode, signature};
 use wz_types::{RefKind, Reference, TrapKind, ValType, Value};
@@ -426,8 +426,8 @@ fn operations_on_floats_ask(rt: HostRuntime) {
 
 #[test]
 fn kinds_of_operands(rt: HostRuntime) {
-    assert!(rt; operands_of(NumOp::I64Eqz) == Operands::OneI64);
-    assert!(rt; operands_of(NumOp::F32Copysign) == Operands::TwoF32);
+    assert!(rt; operand_shape(NumOp::I64Eqz) == OperandShape::OneI64);
+    assert!(rt; operand_shape(NumOp::F32Copysign) == OperandShape::TwoF32);
     assert!(rt;
         NumAnswer::from(two_i32(NumOp::I32Sub, 1, 2))
             == eval(NumOp::I32Sub, &[Value::I32(1), Value::I32(2)])
