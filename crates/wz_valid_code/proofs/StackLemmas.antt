@@ -1,3 +1,4 @@
+-- The stack that the checker keeps stands for the stacks of the relation: what a rule makes of it, in both directions.
 use Rattle.std.proofs.Common.{◌≡◌, ◌≤◌, ℕ, List, [], ◌∷◌, Option, Some, None, Bool, true, false, IsTrue, reverse, length, refl, ap, sym, subst, ◌∙◌, arith, if◌then◌else◌, ◌==◌}
 use Rattle.std.specs.Prelude.{is_some}
 use Rattle.std.proofs.lemmas.Bool.{eqb-true, eq-eqb}

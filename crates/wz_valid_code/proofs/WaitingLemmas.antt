@@ -30,21 +30,21 @@ append-none [] = refl
 append-none (x ∷ xs) = ap (λ t. x ∷ t) (append-none xs)
 
 pub grown-none : (labels : List (List ValType)) (old : List WaitingBlock) → Grown labels old old []
-grown-none labels old = record { added = []; split = sym (append-none old); inner = refl; deep = tt }
+grown-none labels old = record { new_blocks = []; split = sym (append-none old); inner = refl; deep = tt }
 
 pub grown-append : (labels : List (List ValType)) (a b c : List WaitingBlock) (p q : List Inner) → Grown labels a b p → Grown labels b c q → Grown labels a c (p ++ q)
 grown-append labels a b c p q g h = record {
-  added = g.added ++ h.added;
-  split = h.split ∙ ap (λ x. x ++ h.added) g.split ∙ append_assoc a g.added h.added;
-  inner = map-append (inner_at labels) g.added h.added ∙ cc (g.inner, h.inner);
-  deep = AllDeep-append (length labels) g.added h.added g.deep h.deep;
+  new_blocks = g.new_blocks ++ h.new_blocks;
+  split = h.split ∙ ap (λ x. x ++ h.new_blocks) g.split ∙ append_assoc a g.new_blocks h.new_blocks;
+  inner = map-append (inner_at labels) g.new_blocks h.new_blocks ∙ cc (g.inner, h.inner);
+  deep = AllDeep-append (length labels) g.new_blocks h.new_blocks g.deep h.deep;
 }
 
 -- one more, within all labels
 pub grown-one : (labels : List (List ValType)) (old new : List WaitingBlock) (w : WaitingBlock) → new ≡ old ++ w ∷ [] → w.depth ≡ length labels
     → Grown labels old new (record { labels = w.label ∷ reverse labels; block = w.block; before = w.before; results = w.results } ∷ [])
 grown-one labels old new w e d = record {
-  added = w ∷ [];
+  new_blocks = w ∷ [];
   split = e;
   inner = ap (λ (ls : List (List ValType)). record { labels = w.label ∷ reverse ls; block = w.block; before = w.before; results = w.results } ∷ [])
       (ap (λ n. take n labels) d ∙ take_all (length labels) labels (omega arith));
@@ -151,7 +151,7 @@ module _ (scope : Scope) (body : BodyParts) (law : TreeOfBlock) (rise : NamesRis
       ≡ map (inner_at labels) ws ++ inner_in scope (reverse (labels_in labels w)) (arm_at body.blocks w.block)
   grown-pieces ws new up within g =
       let old = pieces-same labels w.depth w.label 0 ws within up in
-      ap (λ x. map (inner_at (labels_in labels w)) x) g.split ∙ map-append (inner_at (labels_in labels w)) ws g.added ∙ cc (old, g.inner)
+      ap (λ x. map (inner_at (labels_in labels w)) x) g.split ∙ map-append (inner_at (labels_in labels w)) ws g.new_blocks ∙ cc (old, g.inner)
 
   pub waiting-turn : (results : List ValType) (ws new : List WaitingBlock) → Waiting scope body results labels (ws ++ w ∷ [])
       → Lead (outer_rules scope (reverse (labels_in labels w)) (λ instr. leaf_in body instr) (arm_at body.blocks w.block)) (pushed w.before []) w.results
@@ -163,7 +163,7 @@ module _ (scope : Scope) (body : BodyParts) (law : TreeOfBlock) (rise : NamesRis
       let deeper = labels_in-length labels w up.1 in
       let R : List WaitingBlock → Type 0 = λ x. DepthsRise 0 x (length (labels_in labels w)) in
       record {
-        rises = subst R (sym g.split) (rises-more 0 ws w.depth g.added (length (labels_in labels w)) up.0 (omega (arith, deeper)) g.deep);
+        rises = subst R (sym g.split) (rises-more 0 ws w.depth g.new_blocks (length (labels_in labels w)) up.0 (omega (arith, deeper)) g.deep);
         complete = λ t.
             let whole = subst P (map-append (inner_at labels) ws (w ∷ [])) (waits.complete t) in
             let p = AllTyped-parts scope (λ k. tree_of body k) (map (inner_at labels) ws) (inner_at labels w ∷ []) whole in

@@ -27,10 +27,10 @@ AllDeep depth (pending ∷ waiting) = (pending.depth ≡ depth) × AllDeep depth
 
 -- the new list is the old one with these blocks behind it, all within the innermost label
 pub record Grown (labels : List (List ValType)) (old new : List WaitingBlock) (made : List Inner) : Type 0 where
-  pub added : List WaitingBlock
-  pub split : new ≡ old ++ added
-  pub inner : map (inner_at labels) added ≡ made
-  pub deep : AllDeep (length labels) added
+  pub new_blocks : List WaitingBlock
+  pub split : new ≡ old ++ new_blocks
+  pub inner : map (inner_at labels) new_blocks ≡ made
+  pub deep : AllDeep (length labels) new_blocks
 
 -- their depths rise from `low` to at most `high`
 abbrev pub DepthsRise : ℕ → List WaitingBlock → ℕ → Type 0

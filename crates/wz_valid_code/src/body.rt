@@ -131,8 +131,8 @@ fn is_body_typed(
     is_typed(alloc, &scope, body)
 }
 
-/// Checks the body of a function of type `kind`: it is refused as untyped exactly where no typing of
-/// it exists. The number of locals costs nothing, only the number of their runs does.
+/// Checks the body of a function of type `kind`: it is refused as untyped exactly where no typing
+/// of it exists. The number of locals costs nothing, only the number of their runs does.
 pub fn check_body(
     alloc: Global,
     context: &Context<'_>,

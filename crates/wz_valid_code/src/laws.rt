@@ -15,7 +15,7 @@ pub fn tree_and_blocks()
 }
 
 /// Typing rests only on the types of what can be named: not on sizes, values or what was dropped,
-/// nor on how many globals are imported; and it stays where references may be made of more functions.
+/// nor on how many globals are imported; and it stays where more functions may be referred to.
 pub fn typing_serves()
     ensures { TypingServes }
 {}
@@ -27,8 +27,8 @@ pub fn typing_widens()
     ensures constant { ConstantWidens }
 {}
 
-/// A constant that has a typing has its width: an i32 of 2^32 is none, though a tree in a clause may
-/// hold it.
+/// A constant that has a typing has its width: an i32 of 2^32 has none, though a tree in a clause
+/// may hold it.
 pub fn constants_have_width()
     ensures typed { TypedHasWidth }
     ensures constant { ConstantHasWidth }

@@ -82,7 +82,7 @@ fn add_of<'c>(
             add_block(scope, labels, shape, false, no, waiting)?;
             Ok(())
         }
-        // one that names a block and was forgotten here has no rule either, so no code with it is typed
+        // one that names a block and was forgotten here has no rule either, so it is never typed
         _ => Ok(()),
     }
 }
