@@ -14,7 +14,7 @@ use Rattle.wz_bytes.proofs.UnsignedLaws.{unsigned_exact}
 use Rattle.wz_bytes.proofs.SignedLaws.{signed_exact}
 use Rattle.wz_bytes.proofs.NameLaws.{name_exact}
 use Rattle.wz_bytes.proofs.FormLaws.{both_exact, tagged_exact, made_exact, sized_exact, vector_exact}
-use Rattle.wz_top.specs.FirstGrammar.{IsNumber, IsEnd, IsIndex, IsInteger, WithText, IsMutability, IsGlobal, IsTarget, IsFirstExport, IsInstruction, IsFirstExpression, IsOneType, IsOneFunction, IsOneBody, IsSection, AreSections, first_global_of, first_export_of, first_module_of}
+use Rattle.wz_top.specs.FirstGrammar.{IsNumber, IsEnd, IsIndex, IsInteger, WithText, IsMutability, IsGlobal, IsFirstTarget, IsFirstExport, IsInstruction, IsFirstExpression, IsOneType, IsOneFunction, IsOneBody, IsSection, AreSections, first_global_of, first_export_of, first_module_of}
 use Rattle.wz_top.specs.FirstReading.{number_at, end_at, first_index_at, integer_at, with_text_at, mutability_at, global_at, target_at, first_export_at, instruction_at, instructions_at, first_expression_at, end_or, one_type_at, one_function_at, first_entry_at, one_body_at, section_at, sections_at}
 use Rattle.wz_top.specs.declared.first_grammar.Target.{Target}
 use Rattle.wz_top.specs.declared.first_grammar.Target.TheVariants as target
@@ -100,20 +100,20 @@ mutability_again text true rest h = rw h refl
 pub mutability_exact : IsExact IsMutability mutability_at
 mutability_exact = record { found = mutability_found; again = mutability_again }
 
-target_found : (bytes : List ℕ) (t : Target) (rest : List ℕ) → target_at bytes ≡ Some (t, rest) → Front IsTarget bytes t rest
+target_found : (bytes : List ℕ) (t : Target) (rest : List ℕ) → target_at bytes ≡ Some (t, rest) → Front IsFirstTarget bytes t rest
 target_found [] t rest e = absurd cc
 target_found (b ∷ bytes) t rest e =
     elim (chosen (nat_eq b 0x00) _ _ _ e) [
-      | inl h ↦ row IsTarget (IsNumber 0) (number_at 0) (number_exact 0) (λ _. target.Function) b 0x00 bytes t rest h.0 h.1 (λ text x s. (text, refl, s))
+      | inl h ↦ row IsFirstTarget (IsNumber 0) (number_at 0) (number_exact 0) (λ _. target.Function) b 0x00 bytes t rest h.0 h.1 (λ text x s. (text, refl, s))
       | inr h ↦ let g = guarded (nat_eq b 0x03) _ _ h.1 in
-          row IsTarget IsIndex first_index_at index_exact (λ n. target.Global n) b 0x03 bytes t rest g.0 g.1 (λ text x s. (text, refl, s))
+          row IsFirstTarget IsIndex first_index_at index_exact (λ n. target.Global n) b 0x03 bytes t rest g.0 g.1 (λ text x s. (text, refl, s))
     ]
 
-target_again : (text : List ℕ) (t : Target) (rest : List ℕ) → IsTarget text t → target_at (text ++ rest) ≡ Some (t, rest)
+target_again : (text : List ℕ) (t : Target) (rest : List ℕ) → IsFirstTarget text t → target_at (text ++ rest) ≡ Some (t, rest)
 target_again text target.Function rest h = rw (h.1, (number_exact 0).again h.0 tt rest h.2) refl
 target_again text (target.Global index) rest h = rw (h.1, index_exact.again h.0 index rest h.2) refl
 
-pub target_exact : IsExact IsTarget target_at
+pub target_exact : IsExact IsFirstTarget target_at
 target_exact = record { found = target_found; again = target_again }
 
 -- ---- instructions
@@ -234,7 +234,7 @@ global_exact =
     made_exact first_global_of _ _ (tagged_exact 0x7F _ _ both)
 
 export_exact : IsExact IsFirstExport first_export_at
-export_exact = made_exact first_export_of _ _ (both_exact IsName IsTarget name_at target_at name_exact target_exact)
+export_exact = made_exact first_export_of _ _ (both_exact IsName IsFirstTarget name_at target_at name_exact target_exact)
 
 one_type_exact : IsExact IsOneType one_type_at
 one_type_exact =

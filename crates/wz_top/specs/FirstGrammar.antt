@@ -82,15 +82,15 @@ IsGlobal text global =
     Made first_global_of (Tagged 0x7F (Both IsMutability (Tagged 0x41 (Both IsInteger IsEnd)))) text global
 
 -- function 0, or a global
-abbrev pub IsTarget : List ℕ → Target → Type 0
-IsTarget text target.Function = Tagged 0x00 (IsNumber 0) text tt
-IsTarget text (target.Global index) = Tagged 0x03 IsIndex text index
+abbrev pub IsFirstTarget : List ℕ → Target → Type 0
+IsFirstTarget text target.Function = Tagged 0x00 (IsNumber 0) text tt
+IsFirstTarget text (target.Global index) = Tagged 0x03 IsIndex text index
 
 abbrev pub first_export_of : List ℕ × Target → FirstExport
 first_export_of x = record { name = x.0; target = x.1 }
 
 abbrev pub IsFirstExport : List ℕ → FirstExport → Type 0
-IsFirstExport text export = Made first_export_of (Both IsName IsTarget) text export
+IsFirstExport text export = Made first_export_of (Both IsName IsFirstTarget) text export
 
 -- one code entry, without locals
 abbrev pub IsOneBody : List ℕ → List Instruction → Type 0
