@@ -1,5 +1,5 @@
 -- How what a builder keeps is kept by each of its calls.
-use Rattle.std.proofs.Common.{◌≡◌, ◌≢◌, ℕ, zero, suc, ◌+◌, ◌<◌, ◌≤◌, List, [], ◌∷◌, ◌++◌, length, take, drop, set, get_or, refl, sym, ap, subst, ◌∙◌, arith, inl, inr}
+use Rattle.std.proofs.Common.{◌≡◌, ℕ, zero, suc, ◌+◌, ◌<◌, ◌≤◌, List, [], ◌∷◌, ◌++◌, length, take, set, get_or, refl, sym, ap, ◌∙◌, arith, inl, inr}
 use Rattle.std.proofs.lemmas.List.{append-nil, take_all, length-set, length-append, take-append-le, get_or-set_same, get_or-set_other, get_or_append_left, get_or_push}
 use Rattle.std.proofs.lemmas.List.Sums.{sum_by-set, sum_by-append}
 use Rattle.std.proofs.lemmas.Bool.{cases_eq}
@@ -7,25 +7,29 @@ use Rattle.std.specs.List.{sum_by}
 use Rattle.wz_code.specs.declared.instr.Instr.{Instr}
 use Rattle.wz_code.specs.BodyParts.{Blocks, block_at, put_instr}
 use Rattle.wz_code.specs.BlockRule.{Every}
-use Rattle.wz_code.specs.Layout.{sent_to, instrs_in, blocks_by, blocks_of, sum_before, IsCounted, IsNoted}
+use Rattle.wz_code.specs.Layout.{instrs_in, blocks_by, blocks_of, sum_before, IsCounted, IsNoted}
 use Rattle.wz_code.proofs.TreeLemmas.{every-of, every-push}
 use Rattle.wz_code.proofs.LayoutLemmas.{sent_to-none, instrs_in-here, instrs_in-away, length-blocks_by, blocks_by-at, blocks_by-put, blocks_by-push}
 
 -- ---- one block, or several
 
-pub blocks-several : (code : List Instr) (settled : ℕ) (added : List (ℕ × Instr)) (counts : List ℕ) → 0 < length counts → blocks_of code settled added counts ≡ blocks_by (take settled code) added 0 counts
+pub blocks-several : (code : List Instr) (settled : ℕ) (added : List (ℕ × Instr)) (counts : List ℕ) → 0 < length counts
+    → blocks_of code settled added counts ≡ blocks_by (take settled code) added 0 counts
 blocks-several code settled added [] h = absurd (omega arith)
 blocks-several code settled added (c ∷ counts) h = refl
 
-pub noted-several : (code : List Instr) (settled : ℕ) (added : List (ℕ × Instr)) (counts : List ℕ) → 0 < length counts → IsCounted code settled added counts → IsNoted code settled added counts
+pub noted-several : (code : List Instr) (settled : ℕ) (added : List (ℕ × Instr)) (counts : List ℕ) → 0 < length counts
+    → IsCounted code settled added counts → IsNoted code settled added counts
 noted-several code settled added [] h counted = absurd (omega arith)
 noted-several code settled added (c ∷ counts) h counted = counted
 
-pub counted-several : (code : List Instr) (settled : ℕ) (added : List (ℕ × Instr)) (counts : List ℕ) → 0 < length counts → IsNoted code settled added counts → IsCounted code settled added counts
+pub counted-several : (code : List Instr) (settled : ℕ) (added : List (ℕ × Instr)) (counts : List ℕ) → 0 < length counts
+    → IsNoted code settled added counts → IsCounted code settled added counts
 counted-several code settled added [] h noted = absurd (omega arith)
 counted-several code settled added (c ∷ counts) h noted = noted
 
-pub length-blocks_of : (code : List Instr) (settled : ℕ) (added : List (ℕ × Instr)) (counts : List ℕ) → 0 < length counts → length (blocks_of code settled added counts) ≡ length counts
+pub length-blocks_of : (code : List Instr) (settled : ℕ) (added : List (ℕ × Instr)) (counts : List ℕ)
+    → 0 < length counts → length (blocks_of code settled added counts) ≡ length counts
 length-blocks_of code settled added counts h =
     ap (λ (bs : Blocks). length bs) (blocks-several code settled added counts h) ∙ length-blocks_by (take settled code) added 0 counts
 
@@ -40,7 +44,8 @@ sum_before-all counts = ap (λ (cs : List ℕ). sum_by (λ count. count) cs) (ta
 -- ---- an instruction more
 
 -- a place more, and nothing else
-pub counted-room : (code : List Instr) (settled : ℕ) (added : List (ℕ × Instr)) (counts : List ℕ) (instr : Instr) → IsCounted code settled added counts → IsCounted (code ++ instr ∷ []) settled added counts
+pub counted-room : (code : List Instr) (settled : ℕ) (added : List (ℕ × Instr)) (counts : List ℕ) (instr : Instr)
+    → IsCounted code settled added counts → IsCounted (code ++ instr ∷ []) settled added counts
 counted-room code settled added counts instr counted =
     let first : take settled (code ++ instr ∷ []) ≡ take settled code = take-append-le settled code (instr ∷ []) (omega (arith, counted.room)) in
     record {
@@ -50,7 +55,8 @@ counted-room code settled added counts instr counted =
       room = omega (arith, counted.room, length-append code (instr ∷ []));
     }
 
-pub counted-instr : (code : List Instr) (settled : ℕ) (added : List (ℕ × Instr)) (counts : List ℕ) (n : ℕ) (instr extra : Instr) → n < length counts → IsCounted code settled added counts
+pub counted-instr : (code : List Instr) (settled : ℕ) (added : List (ℕ × Instr)) (counts : List ℕ) (n : ℕ) (instr extra : Instr)
+    → n < length counts → IsCounted code settled added counts
     → IsCounted (code ++ extra ∷ []) settled (added ++ (n, instr) ∷ []) (set counts n (get_or counts n 0 + 1))
 counted-instr code settled added counts n instr extra h counted =
     let more = get_or counts n 0 + 1 in
@@ -66,7 +72,8 @@ counted-instr code settled added counts n instr extra h counted =
       each : (m : ℕ) → m < length counts → get_or (set counts n (get_or counts n 0 + 1)) m 0 ≡ length (instrs_in (take settled code) (added ++ (n, instr) ∷ []) m)
       each m within = elim (cases_eq m n) [
         | inl same ↦ let here = instrs_in-here (take settled code) added n instr in
-            let grown : length (instrs_in (take settled code) added n ++ instr ∷ []) ≡ length (instrs_in (take settled code) added n) + 1 = length-append (instrs_in (take settled code) added n) (instr ∷ []) in
+            let grown : length (instrs_in (take settled code) added n ++ instr ∷ []) ≡ length (instrs_in (take settled code) added n) + 1 =
+            length-append (instrs_in (take settled code) added n) (instr ∷ []) in
             let e : get_or (set counts n (get_or counts n 0 + 1)) n 0 ≡ get_or counts n 0 + 1 = get_or-set_same counts n (get_or counts n 0 + 1) 0 h in
             rw (same, e, here) (omega (arith, grown, counted.each n h))
         | inr other ↦ let e = get_or-set_other counts n m (get_or counts n 0 + 1) 0 other in
@@ -104,17 +111,20 @@ blocks-block code settled added counts h counted =
     let size : length (counts ++ 0 ∷ []) ≡ length counts + 1 = length-append counts (0 ∷ []) in
     blocks-several code settled added (counts ++ 0 ∷ []) (omega arith)
     ∙ blocks_by-push (take settled code) added 0 counts 0
-    ∙ ap (λ (is : List Instr). blocks_by (take settled code) added 0 counts ++ is ∷ []) (ap (λ (n : ℕ). instrs_in (take settled code) added n) (omega arith) ∙ instrs_in-new (take settled code) added (length counts) h counted.there)
+    ∙ ap (λ (is : List Instr). blocks_by (take settled code) added 0 counts ++ is ∷ []) (ap (λ (n : ℕ). instrs_in (take settled code) added n) (omega arith)
+    ∙ instrs_in-new (take settled code) added (length counts) h counted.there)
     ∙ ap (λ (bs : Blocks). bs ++ [] ∷ []) (sym (blocks-several code settled added counts h))
 
-pub counted-block : (code : List Instr) (settled : ℕ) (added : List (ℕ × Instr)) (counts : List ℕ) → 0 < length counts → IsCounted code settled added counts → IsCounted code settled added (counts ++ 0 ∷ [])
+pub counted-block : (code : List Instr) (settled : ℕ) (added : List (ℕ × Instr)) (counts : List ℕ) → 0 < length counts
+    → IsCounted code settled added counts → IsCounted code settled added (counts ++ 0 ∷ [])
 counted-block code settled added counts h counted =
     let size : length (counts ++ 0 ∷ []) ≡ length counts + 1 = length-append counts (0 ∷ []) in
     record {
       there = every-of (λ e. e.0 < length counts) (λ e. e.0 < length (counts ++ 0 ∷ [])) (λ e lt. omega (arith, size, lt)) added counted.there;
       each = λ n within. elim (cases_eq n (length counts)) [
         | inl last ↦ let e : get_or (counts ++ 0 ∷ []) n 0 ≡ 0 = get_or_push counts 0 0 n (sym last) in
-            let none : instrs_in (take settled code) added n ≡ [] = ap (λ (m : ℕ). instrs_in (take settled code) added m) last ∙ instrs_in-new (take settled code) added (length counts) h counted.there in
+            let none : instrs_in (take settled code) added n ≡ [] =
+            ap (λ (m : ℕ). instrs_in (take settled code) added m) last ∙ instrs_in-new (take settled code) added (length counts) h counted.there in
             rw (e, none) refl
         | inr other ↦ let lt : n < length counts = omega (arith, size, within) in
             let e = get_or_append_left counts (0 ∷ []) 0 n lt in rw e (counted.each n lt)
@@ -174,5 +184,6 @@ several-at code settled added counts n some h noted =
       there = there;
       counted = counted;
       number = counted.each n there ∙ sym (ap (λ (is : List Instr). length is)
-          (ap (λ (bs : Blocks). block_at bs n) (blocks-several code settled added counts some) ∙ blocks_by-at (take settled code) added 0 counts n there ∙ ap (λ (m : ℕ). instrs_in (take settled code) added m) (omega arith)));
+          (ap (λ (bs : Blocks). block_at bs n) (blocks-several code settled added counts some) ∙ blocks_by-at (take settled code) added 0 counts n there
+          ∙ ap (λ (m : ℕ). instrs_in (take settled code) added m) (omega arith)));
     }

@@ -6,7 +6,7 @@ use Rattle.wz_code.specs.declared.instr.Instr.{Instr}
 use Rattle.wz_code.specs.declared.body.Whole.{Whole}
 use Rattle.wz_code.specs.declared.body.Parts.{Parts}
 use Rattle.wz_code.specs.declared.body.Parts.TheVariants as part
-use Rattle.wz_code.specs.BodyParts.{Blocks, BodyParts}
+use Rattle.wz_code.specs.BodyParts.{BodyParts}
 use Rattle.wz_code.specs.BlockRule.{IsBody}
 use Rattle.wz_code.specs.Layout.{cut, IsCut, IsNoted}
 

@@ -1,9 +1,8 @@
-use Rattle.std.proofs.Common.{◌≡◌, ◌+◌, ◌<◌, ◌≤◌, ◌∷◌, ◌++◌, [], length, get_or, set, sym, ap, subst, ◌∙◌, rules, arith}
+use Rattle.std.proofs.Common.{◌+◌, ◌<◌, length, get_or, sym, ap, subst, ◌∙◌, rules, arith}
 use Rattle.std.proofs.lemmas.Result.{err_from_is_err_and}
 use Rattle.std.proofs.lemmas.List.{get_or_read, length-set}
 use Rattle.std.specs.Prelude.{vec_len}
 use Rattle.wz_code.specs.BodyParts.{BodyParts, Blocks, block_at, with_instr}
-use Rattle.wz_code.specs.Layout.{IsNoted}
 use Rattle.wz_code.proofs.BuildLemmas.{several-at, noted-several, counted-room, counted-instr, blocks-instr, blocks-room}
 use Rattle.wz_code.proofs.builder.BodyBuilder.add_instr.Goals as goal
 
@@ -78,7 +77,8 @@ invariant_of-self-2 c =
     let size = length-set b.counts.items c.args.block (get_or b.counts.items c.args.block 0 + 1) in
     rw (c.in_ok-push-2.ensures.items, c.in_ok-push-3.ensures.items, is)
     (record {
-      noted = noted-several _ _ _ _ (omega (arith, size, several)) (counted-instr b.code.items b.settled b.added.items b.counts.items c.args.block c.args.instr c.args.instr s.there s.counted);
+      noted = noted-several _ _ _ _ (omega (arith, size, several))
+          (counted-instr b.code.items b.settled b.added.items b.counts.items c.args.block c.args.instr c.args.instr s.there s.counted);
       place = record {
         one_block = λ none. size ∙ c.self.invariant.place.one_block none;
         no_locals = c.self.invariant.place.no_locals;
@@ -105,5 +105,6 @@ returns-clause-added c =
     let s = several-at b.code.items b.settled b.added.items b.counts.items c.args.block several there c.self.invariant.noted in
     rw (c.in_ok-push-2.ensures.items, c.in_ok-push-3.ensures.items)
     (ap (λ (bs : Blocks). let p : BodyParts = record { locals = b.locals.items; blocks = bs; labels = b.labels.items; types = b.types.items } in p)
-    (blocks-instr b.code.items b.settled b.added.items b.counts.items c.args.block (c.index-number.result.now + 1) c.args.instr c.args.instr s.there (omega (arith, s.counted.room)))
+    (blocks-instr b.code.items b.settled b.added.items b.counts.items c.args.block (c.index-number.result.now + 1)
+    c.args.instr c.args.instr s.there (omega (arith, s.counted.room)))
     ∙ ap (λ (p : BodyParts). with_instr p c.args.block c.args.instr) c.self.view_is)
