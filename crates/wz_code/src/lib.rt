@@ -9,13 +9,16 @@
 
 mod accesses;
 mod body;
+mod builder;
 mod instr;
 pub mod laws;
 mod numeric;
+mod order;
 mod walk;
 
 pub use accesses::{AccessShape, MemOp, access, access_from_opcode};
-pub use body::{Body, BodyBuilder};
+pub use body::Body;
+pub use builder::BodyBuilder;
 pub use instr::{Instr, Shape};
 pub use numeric::{NumOp, OpTypes, from_opcode, opcode, signature};
 pub use walk::{Walk, walk_body};

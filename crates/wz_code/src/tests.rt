@@ -1,7 +1,8 @@
 ghost use Rattle.std.specs.Prelude.{◌≡◌, ◌+◌, ◌≤◌, ℕ};
 
 use crate::accesses::{AccessShape, MemOp, access, access_from_opcode};
-use crate::body::{Body, BodyBuilder};
+use crate::body::Body;
+use crate::builder::BodyBuilder;
 use crate::instr::{Instr, Shape};
 use crate::numeric::{NumOp, OpTypes, from_opcode, opcode, signature};
 use crate::walk::{Walk, walk_body};
@@ -139,6 +140,7 @@ fn bodies_are_built_and_walked(rt: HostRuntime) -> Result<(), Fail> {
     assert!(rt; body.types() == [ValType::F32].as_slice());
     assert_eq!(rt; body.block_count(), 2);
     assert_eq!(rt; size_of::<Instr>(), 24);
+    assert_eq!(rt; size_of::<Body>(), 32);
     assert!(rt; matches!(body.block(1), Some([Instr::Br(0)])));
     assert!(rt; body.block(2).is_none());
     let mut all = Counter { seen: 0, limit: 9 };
