@@ -24,7 +24,9 @@ mod slices;
 #[cfg(test)]
 mod tests;
 mod unsigned;
+mod vectors;
 
 pub use cursor::Cursor;
 pub use signed::{put_signed, read_signed};
 pub use unsigned::{put_unsigned, read_unsigned};
+pub use vectors::{Item, ItemFault, read_all, take_items, take_vector};

@@ -11,6 +11,7 @@ use crate::first_reader::{
 };
 use crate::first_vector::{ReadFault, read_exports, read_globals};
 use std::alloc::Global as Heap;
+use wz_bytes::Cursor;
 
 /// The instructions in front, and the bytes behind their end.
 fn expression(alloc: Heap, bytes: &[u8]) -> Result<(Vec<Instruction>, &[u8]), ReadFault>
@@ -58,10 +59,14 @@ fn read_code(alloc: Heap, contents: &[u8]) -> Result<Vec<Instruction>, ReadFault
     let Some((size, rest)) = number(rest) else {
         return Err(ReadFault::Bad);
     };
-    if size as usize != rest.len() {
+    let mut cursor = Cursor::new(rest);
+    let Some(code) = cursor.take(size as usize) else {
+        return Err(ReadFault::Bad);
+    };
+    if !cursor.left().is_empty() {
         return Err(ReadFault::Bad);
     }
-    entry(alloc, rest)
+    entry(alloc, code)
 }
 
 /// The contents of the type section, and the bytes behind it.

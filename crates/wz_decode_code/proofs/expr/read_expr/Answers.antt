@@ -17,7 +17,7 @@ pub overflow_sub-left : goal.overflow_sub-left
 overflow_sub-left c = no_longer _ _ _ c.in_ok-body.ensures.ok
 
 pub returns-clause-found : goal.returns-clause-found
-returns-clause-found c = passed _ _ _ (taken _ _ c.args.cursor.now c.take.new.self _ _ _ c.left-left.ensures c.in_ok-body.ensures.ok c.take.ensures.exact)
+returns-clause-found c = passed _ _ _ (taken _ _ c.args.cursor.now c.take.new.self _ _ _ c.left-left.ensures c.in_ok-body.ensures.ok c.take.ensures.found c.take.ensures.none)
 
 pub returns-clause-exact : goal.returns-clause-exact
-returns-clause-exact c = (taken _ _ c.args.cursor.now c.take.new.self _ _ _ c.left-left.ensures c.in_ok-body.ensures.ok c.take.ensures.exact).0
+returns-clause-exact c = (taken _ _ c.args.cursor.now c.take.new.self _ _ _ c.left-left.ensures c.in_ok-body.ensures.ok c.take.ensures.found c.take.ensures.none).0
