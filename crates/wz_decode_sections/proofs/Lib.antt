@@ -1,0 +1,5 @@
+pub mod ProductionLaws
+pub mod TypeFormLaws
+pub mod ItemLaws
+pub mod SegmentLaws
+pub mod ReaderLemmas
