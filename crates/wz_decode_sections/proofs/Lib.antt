@@ -3,3 +3,5 @@ pub mod TypeFormLaws
 pub mod ItemLaws
 pub mod SegmentLaws
 pub mod ReaderLemmas
+pub mod SpanLemmas
+pub mod PayloadLaws

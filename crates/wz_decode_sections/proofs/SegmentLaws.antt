@@ -90,7 +90,7 @@ elem_found flag bytes =
     (row_found (λ t x. IsElem t x) (λ t n. IsFlag t n) 7 (λ x. elem_from DeclarativeElem x) _ _ expression_list_exact (λ t x h. inr (inr (inr (inr (inr (inr (inr h))))))) flag bytes)
     (no_row (λ t x. IsElem t x) (λ t n. IsFlag t n) flag bytes))))))))
 
-elem_again : (text : List ℕ) (x : Elem) → IsElem text x → HasRow (λ t n. IsFlag t n) (λ flag b. elem_rows flag b) text x
+pub elem_again : (text : List ℕ) (x : Elem) → IsElem text x → HasRow (λ t n. IsFlag t n) (λ flag b. elem_rows flag b) text x
 elem_again text x (inl h) = row_again (λ t n. IsFlag t n) (λ flag b. elem_rows flag b) 0 (λ x. elem_in_first x) _ _ in_first_exact (λ b. refl) text x h
 elem_again text x (inr (inl h)) = row_again (λ t n. IsFlag t n) (λ flag b. elem_rows flag b) 1 (λ x. elem_from PassiveElem x) _ _ function_list_exact (λ b. refl) text x h
 elem_again text x (inr (inr (inl h))) = row_again (λ t n. IsFlag t n) (λ flag b. elem_rows flag b) 2 (λ x. elem_in_table x) _ _ in_table_exact (λ b. refl) text x h

@@ -14,6 +14,8 @@ pub mod GlobalSection
 pub mod ExportSection
 pub mod StartSection
 pub mod ElementSection
+pub mod Spans
 pub mod CodeSection
 pub mod DataSection
 pub mod DataCountSection
+pub mod Laws

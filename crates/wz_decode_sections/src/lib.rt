@@ -15,8 +15,10 @@ mod data;
 mod fault;
 mod forms;
 mod items;
+pub mod laws;
 mod sections;
 mod segments;
+mod spans;
 mod types;
 
 pub use fault::SectionFault;
@@ -24,3 +26,4 @@ pub use sections::{
     read_code, read_data, read_data_count, read_elements, read_exports, read_functions,
     read_globals, read_imports, read_memories, read_start, read_tables, read_types,
 };
+pub use spans::element_spans;
