@@ -19,6 +19,8 @@ pub mod laws;
 mod sections;
 mod segments;
 mod spans;
+#[cfg(test)]
+mod tests;
 mod types;
 
 pub use fault::SectionFault;
