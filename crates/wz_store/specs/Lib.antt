@@ -1,3 +1,5 @@
 pub mod Changes
+pub mod Lending
 pub mod Made
+pub mod Ranges
 pub mod State
