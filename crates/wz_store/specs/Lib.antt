@@ -1,4 +1,5 @@
 pub mod Changes
+pub mod Growth
 pub mod Lending
 pub mod Made
 pub mod Ranges

@@ -1,6 +1,6 @@
 //! The store: what an instance holds, by number.
 
-ghost use Rattle.std.specs.Prelude.{◌≡◌, ◌+◌, ◌-◌, ◌^◌, ◌<◌, ◌≤◌, ◌↔◌, length, slice_get, slice_index_or, option_map, option_copied, OnOk, OnErr, IsTrue, IfSome};
+ghost use Rattle.std.specs.Prelude.{◌≡◌, ◌+◌, ◌-◌, ◌^◌, ◌<◌, ◌≤◌, ◌↔◌, length, replicate, slice_get, option_map, option_copied, OnOk, OnErr, IsTrue, IfSome};
 ghost use Rattle.std.specs.Bool.{OnTrue, OnFalse};
 ghost use Rattle.std.specs.Borrow.{sem};
 ghost use Rattle.std.specs.Option.{option_copied_mut};
@@ -141,6 +141,12 @@ impl<'m, M: Linear> Store<'m, M> {
 /// What stands at a number. None comes exactly where the number is out of range.
 impl<'m, M: Linear> Store<'m, M> {
     ghost use Rattle.wz_store.specs.State.{table_type_of, memory_type_of};
+
+    /// What new vectors for this store are made with.
+    #[inline]
+    pub fn allocator(&self) -> Global {
+        self.alloc
+    }
 
     #[inline]
     pub fn types(&self) -> &'m [FuncType]
@@ -339,6 +345,15 @@ impl<'m, M: Linear> Store<'m, M> {
         let table = &mut self.tables[at as usize];
         table.extend(by, value)?;
         Ok(())
+    }
+
+    /// Writes the same entry to each place of a range of a table.
+    pub fn fill_table(&mut self, table: u32, to: u32, value: Reference, len: u32)
+        requires { HasEntries self.old.tables table to len }
+        ensures { self.new ≡ applied (WriteTable table to (replicate len value)) self.old }
+    {
+        let target = &mut self.tables[table as usize];
+        target.fill(to, value, len);
     }
 
     /// Copies a range of an element segment's items into a table.

@@ -1,6 +1,6 @@
 //! A table of a store (WebAssembly Core Specification, section 4.2.7).
 
-ghost use Rattle.std.specs.Prelude.{◌≡◌, ◌+◌, ◌^◌, ◌<◌, ◌≤◌, [], length, IfOk, OnOk, OnErr};
+ghost use Rattle.std.specs.Prelude.{◌≡◌, ◌+◌, ◌^◌, ◌<◌, ◌≤◌, [], length, replicate, IfOk, OnOk, OnErr};
 ghost use Rattle.std.specs.Borrow.{sem};
 ghost use Rattle.wz_store.specs.Changes.{overwritten, range_of};
 
@@ -91,6 +91,14 @@ impl TableInstance {
         overwrite(&mut self.entries, at as usize, items);
     }
 
+    /// Writes the same entry to each of so many places.
+    pub(crate) fn fill(&mut self, at: u32, value: Reference, len: u32)
+        requires { at + len ≤ length self.old.entries }
+        ensures { self.new ≡ with_entries at (replicate len value) self.old }
+    {
+        fill_range(&mut self.entries, at as usize, value, len as usize);
+    }
+
     /// Writes the entries that stood at `from` to `to`, as if through a buffer.
     pub(crate) fn copy_within(&mut self, to: u32, from: u32, len: u32)
         requires to { to + len ≤ length self.old.entries }
@@ -132,6 +140,13 @@ pub(crate) fn overwrite(entries: &mut Vec<Reference>, at: usize, items: &[Refere
     ensures { entries.new.items ≡ overwritten entries.old.items at items.now }
 {
     entries[at..at + items.len()].copy_from_slice(items);
+}
+
+fn fill_range(entries: &mut Vec<Reference>, at: usize, value: Reference, len: usize)
+    requires { at + len ≤ length entries.old.items }
+    ensures { entries.new.items ≡ overwritten entries.old.items at (replicate len value) }
+{
+    entries[at..at + len].fill(value);
 }
 
 fn move_within(entries: &mut Vec<Reference>, to: usize, from: usize, len: usize)
