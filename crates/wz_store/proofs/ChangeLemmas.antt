@@ -1,5 +1,5 @@
 -- What a list holds where one item of it was altered.
-use Rattle.std.proofs.Common.{◌≡◌, ◌≢◌, ◌<◌, ◌+◌, ◌⊎◌, inl, inr, ℕ, zero, suc, List, [], ◌∷◌, ◌++◌, Some, length, map, set, get_or, set-set, slice_get, option_map, unwrap_or, refl, ap, sym, ◌∙◌, arith}
+use Rattle.std.proofs.Common.{◌≡◌, ◌≢◌, ◌<◌, ◌⊎◌, inl, inr, ℕ, zero, suc, List, [], ◌∷◌, ◌++◌, Some, length, map, set, get_or, set-set, slice_get, option_map, unwrap_or, refl, ap, sym, ◌∙◌, arith}
 use Rattle.std.proofs.lemmas.Option.{slice_get-get_or}
 use Rattle.std.proofs.lemmas.List.{get_or-set_same, get_or-set_other}
 use Rattle.wz_types.specs.declared.value.Reference.{Reference}
@@ -65,3 +65,47 @@ table_is_copied tables into out to from count d t source again x new there here 
     let same = again_is ∙ get_or-set_same tables into t again there ∙ emptied in
     x_is ∙ ap (λ (y : Table). record y { entries = new }) same
     ∙ ap (λ (xs : List Reference). record d { entries = xs }) (new_is ∙ ap (λ (xs : List Reference). overwritten d.entries to (range_of xs from count)) (sym read))
+
+-- ---- altered lists, for whoever proves something of a change
+
+pub length-altered : {A : Type 0} (alter : A → A) (xs : List A) (i : ℕ) → length (altered alter xs i) ≡ length xs
+length-altered alter [] i = refl
+length-altered alter (x ∷ xs) zero = refl
+length-altered alter (x ∷ xs) (suc i) = ap suc (length-altered alter xs i)
+
+-- an item of the altered list is one that was there, or the altered one
+pub get-altered : {A : Type 0} (alter : A → A) (xs : List A) (i k : ℕ) (y : A) → slice_get (altered alter xs i) k ≡ Some y
+    → (x : A) × (slice_get xs k ≡ Some x) × ((x ≡ y) ⊎ ((i ≡ k) × (alter x ≡ y)))
+get-altered alter [] i k y h = absurd (cc h)
+get-altered alter (x ∷ xs) zero zero y h = (x, refl, inr (refl, cc h))
+get-altered alter (x ∷ xs) zero (suc k) y h = (y, h, inl refl)
+get-altered alter (x ∷ xs) (suc i) zero y h = (y, h, inl refl)
+get-altered {A = A} alter (x ∷ xs) (suc i) (suc k) y h = by (get-altered alter xs i k y h)
+  where
+    by : (x : A) × (slice_get xs k ≡ Some x) × ((x ≡ y) ⊎ ((i ≡ k) × (alter x ≡ y))) → (x : A) × (slice_get xs k ≡ Some x) × ((x ≡ y) ⊎ ((suc i ≡ suc k) × (alter x ≡ y)))
+    by (x, is, inl e) = (x, is, inl e)
+    by (x, is, inr e) = (x, is, inr (ap suc e.0, e.1))
+
+-- what stands in front of more items
+pub altered-append : {A : Type 0} (alter : A → A) (xs more : List A) (i : ℕ) → i < length xs → altered alter (xs ++ more) i ≡ altered alter xs i ++ more
+altered-append alter [] more i h = absurd (omega arith)
+altered-append alter (x ∷ xs) more zero h = refl
+altered-append alter (x ∷ xs) more (suc i) h = ap (λ ys. x ∷ ys) (altered-append alter xs more i (omega arith))
+
+-- a part that the alteration leaves
+pub map-altered : {A B : Type 0} (view : A → B) (alter : A → A) → ((x : A) → view (alter x) ≡ view x) → (xs : List A) (i : ℕ) → map view (altered alter xs i) ≡ map view xs
+map-altered view alter same [] i = refl
+map-altered view alter same (x ∷ xs) zero = ap (λ y. y ∷ map view xs) (same x)
+map-altered view alter same (x ∷ xs) (suc i) = ap (λ ys. view x ∷ ys) (map-altered view alter same xs i)
+
+-- two alterations that agree on the item that is there
+pub altered_alike : {A : Type 0} (one other : A → A) (xs : List A) (i : ℕ) → ((x : A) → slice_get xs i ≡ Some x → one x ≡ other x) → altered one xs i ≡ altered other xs i
+altered_alike one other [] i same = refl
+altered_alike one other (x ∷ xs) zero same = ap (λ y. y ∷ xs) (same x refl)
+altered_alike one other (x ∷ xs) (suc i) same = ap (λ ys. x ∷ ys) (altered_alike one other xs i same)
+
+-- an alteration that leaves the item
+pub altered_kept : {A : Type 0} (alter : A → A) (xs : List A) (i : ℕ) → ((x : A) → slice_get xs i ≡ Some x → alter x ≡ x) → altered alter xs i ≡ xs
+altered_kept alter [] i same = refl
+altered_kept alter (x ∷ xs) zero same = ap (λ y. y ∷ xs) (same x refl)
+altered_kept alter (x ∷ xs) (suc i) same = ap (λ ys. x ∷ ys) (altered_kept alter xs i same)
