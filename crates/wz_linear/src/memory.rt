@@ -3,7 +3,7 @@
 ghost use Rattle.std.specs.Prelude.{◌≡◌, ℕ, ◌+◌, ◌*◌, ◌^◌, ◌<◌, ◌≤◌, ◌↔◌, ◌++◌, List, length, replicate, IsTrue, IfOk, OnOk, OnErr, IfSome, SomeIff};
 ghost use Rattle.std.specs.Bool.{OnTrue, OnFalse};
 ghost use Rattle.std.specs.List.{All};
-ghost use Rattle.wz_linear.specs.Bytes.{IsWidth, IsWithin, number_of, bytes_of, part, written};
+ghost use Rattle.wz_linear.specs.Bytes.{IsAccessWidth, IsWithin, number_of, bytes_of, part, written};
 
 use std::alloc::{AllocError, Global};
 
@@ -41,14 +41,14 @@ pub trait Linear: Drop {
 
     /// The number whose bytes, the lowest first, stand at `at`.
     fn load(&self, at: u64, width: u32) -> Option<u64>
-        requires { IsWidth width }
+        requires { IsAccessWidth width }
         ensures found { SomeIff result
             (IsWithin (contents self.now) at width) (number_of (part (contents self.now) at width)) }
         ensures narrow { IfSome result (λ number. number < 256 ^ width) };
 
     /// Writes the lowest bytes of the value, the lowest first, at `at`.
     fn store(&mut self, at: u64, value: u64, width: u32) -> Result<bool, AllocError>
-        requires { IsWidth width }
+        requires { IsAccessWidth width }
         ensures within { IfOk result (λ done. IsTrue done ↔ IsWithin (contents self.old) at width) }
         ensures stored { IfOk result (λ done. OnTrue done
             (contents self.new ≡ written (contents self.old) at (bytes_of width value))) }
@@ -90,4 +90,10 @@ pub trait Linear: Drop {
         ensures within { IsTrue result ↔ IsWithin (contents self.now) at (length out.old) }
         ensures copied { OnTrue result (out.new ≡ part (contents self.now) at (length out.old)) }
         ensures outside { OnFalse result (out.new ≡ out.old) };
+
+    /// Whether it is known, without a look at its bytes, that the page holds zeros alone. Takes no memory.
+    fn untouched(&self, page: u32) -> bool
+        requires { (page + 1) * PAGE_SIZE ≤ length (contents self.now) }
+        ensures { OnTrue result
+            (All (λ byte. byte ≡ 0) (part (contents self.now) (page * PAGE_SIZE) PAGE_SIZE)) };
 }

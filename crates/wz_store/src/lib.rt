@@ -1,0 +1,6 @@
+//! The state of an instance, as lists.
+#![tactic(auto)]
+
+mod function;
+
+pub use function::Function;
