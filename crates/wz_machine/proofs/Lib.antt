@@ -4,3 +4,4 @@ pub mod LeafLemmas
 pub mod MoveLemmas
 pub mod ContextLemmas
 pub mod FlatLemmas
+pub mod TypedLemmas

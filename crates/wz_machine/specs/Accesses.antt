@@ -1,4 +1,4 @@
--- Accesses from outside to what is exported, which leave the terms alone (appendix 7.1 of the Core Specification, embedding: table_read,
+-- Accesses from outside to what is exported, which leave the terms alone (section 7.1 of the Core Specification, embedding: table_read,
 -- table_write, table_size, table_grow, mem_read, mem_write, mem_size, mem_grow, global_read, global_write).
 use Rattle.std.specs.Prelude.{ℕ, ◌+◌, nat_le, nat_lt, List, [], ◌∷◌, Option, Some, None, Bool, ◌&&◌, if◌then◌else◌, length, slice_get}
 use Rattle.std.specs.List.{list_all}
@@ -12,7 +12,7 @@ use Rattle.wz_store.specs.Changes.{Change, Nothing, SetGlobal, WriteTable, Write
 use Rattle.wz_machine.specs.Bulk.{may_grow, may_extend}
 use Rattle.wz_machine.specs.State.{State}
 use Rattle.wz_machine.specs.Exports.{ExternalValue, ExternalTable, ExternalMemory, ExternalGlobal}
-use Rattle.wz_machine.specs.Moves.{Event, Refused, Went, Bytes, HeldSize, HeldValue}
+use Rattle.wz_machine.specs.Moves.{Event, Refused, Went, BytesRead, HeldSize, HeldValue}
 use Rattle.wz_machine.specs.Replies.{fits_in}
 
 -- what an access sees, and what it changes in the state
@@ -33,7 +33,7 @@ makes event change = record { event = event; change = change }
 
 abbrev pub memory_read : ℕ → ℕ → Option Memory → AccessReply
 memory_read at count None = no_access
-memory_read at count (Some memory) = if nat_le (at + count) (length memory.bytes) then sees (Bytes (part memory.bytes at count)) else no_access
+memory_read at count (Some memory) = if nat_le (at + count) (length memory.bytes) then sees (BytesRead (part memory.bytes at count)) else no_access
 
 abbrev pub read_access : State → Option ExternalValue → ℕ → ℕ → AccessReply
 read_access s (Some (ExternalMemory index)) at count = memory_read at count (slice_get s.memories index)

@@ -26,3 +26,4 @@ pub mod Within
 pub mod Laws
 pub mod Contexts
 pub mod Flat
+pub mod TypedState

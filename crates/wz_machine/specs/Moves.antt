@@ -1,5 +1,5 @@
 -- What can be done with an instance from outside, and what is seen of it: calls and their steps (section 4.5.5 of the Core
--- Specification), answers to what they ask, and accesses to what is exported (appendix 7.1, embedding).
+-- Specification), answers to what they ask, and accesses to what is exported (section 7.1, embedding, in the appendix).
 use Rattle.std.specs.Prelude.{ℕ, List, Option, Bool}
 use Rattle.wz_types.specs.declared.trap.TrapKind.{TrapKind}
 use Rattle.wz_types.specs.declared.value.Value.{Value}
@@ -45,6 +45,6 @@ pub data Event : Type 0 where
   -- the step was stuck, and nothing has changed
   StuckEvent : Event
   -- what an access sees
-  Bytes : List ℕ → Event
+  BytesRead : List ℕ → Event
   HeldSize : ℕ → Event
   HeldValue : Value → Event

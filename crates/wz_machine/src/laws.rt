@@ -6,7 +6,7 @@ ghost use Rattle.wz_machine.specs.Flat.{PlainStep, LocalStep, OpeningStep};
 ghost use Rattle.wz_machine.specs.Flat.{LeavingTerm, LoopingTerm};
 ghost use Rattle.wz_machine.specs.Laws.{LeafReads, StepReads, MemoryGrowthReads, TableGrowthReads};
 ghost use Rattle.wz_machine.specs.Laws.{ChangeKeeps, ChangeReachesState, StepAddsNone, StepNames};
-ghost use Rattle.wz_machine.specs.Laws.{LeafSame, StepSame, ObservesSame};
+ghost use Rattle.wz_machine.specs.Laws.{LeafSame, StepSame, ObservesSame, TypedNames, ContextLasts};
 
 /// What an instruction or a step does rests on nothing of the state but types, functions and what it
 /// names; growth looks at the present size and the maximum alone.
@@ -61,4 +61,12 @@ pub fn flat_steps()
 pub fn flat_terms()
     ensures leaving { LeavingTerm }
     ensures looping { LoopingTerm }
+{}
+
+/// The functions of a typed state name no segment that isn't there, and the context in which it is typed
+/// is the same after each change.
+#[tactic(auto, using(crate::proofs::TypedLemmas::typed_names, crate::proofs::TypedLemmas::context_lasts))]
+pub fn typed_states()
+    ensures segments { TypedNames }
+    ensures context { ContextLasts }
 {}
