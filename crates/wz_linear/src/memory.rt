@@ -1,6 +1,6 @@
 //! What a linear memory is.
 
-ghost use Rattle.std.specs.Prelude.{◌≡◌, ℕ, ◌+◌, ◌*◌, ◌^◌, ◌<◌, ◌≤◌, ◌↔◌, ◌++◌, List, length, replicate, IsTrue, IfOk, OnOk, OnErr, IfSome, SomeIff};
+ghost use Rattle.std.specs.Prelude.{◌≡◌, ℕ, ◌+◌, ◌*◌, ◌^◌, ◌<◌, ◌≤◌, ◌↔◌, ◌++◌, List, length, replicate, Bool, true, IsTrue, IsFalse, IsOk, IfOk, OnOk, OnErr, IfSome, SomeIff};
 ghost use Rattle.std.specs.Bool.{OnTrue, OnFalse};
 ghost use Rattle.std.specs.List.{All};
 ghost use Rattle.wz_linear.specs.Bytes.{IsAccessWidth, IsWithin, number_of, bytes_of, part, written};
@@ -20,6 +20,9 @@ pub const MAX_PAGES: u32 = 65_536;
 pub trait Linear: Drop {
     /// The bytes of the memory, in the order of their places.
     ghost contents: { Self → List ℕ };
+
+    /// Whether a write may be refused for memory.
+    ghost may_refuse: { Bool } = { true };
 
     /// Makes a memory of so many pages of zeros.
     fn zeroed(alloc: Global, pages: u32) -> Result<Self, AllocError>
@@ -54,7 +57,8 @@ pub trait Linear: Drop {
             (contents self.new ≡ written (contents self.old) at (bytes_of width value))) }
         ensures outside { IfOk result (λ done. OnFalse done
             (contents self.new ≡ contents self.old)) }
-        ensures refused { OnErr result (contents self.new ≡ contents self.old) };
+        ensures refused { OnErr result (contents self.new ≡ contents self.old) }
+        ensures spared { IsFalse may_refuse → IsOk result };
 
     /// Writes the byte to each of `len` places from `at` on.
     fn fill(&mut self, at: u64, byte: u8, len: u64) -> Result<bool, AllocError>
@@ -63,7 +67,8 @@ pub trait Linear: Drop {
             (contents self.new ≡ written (contents self.old) at (replicate len byte))) }
         ensures outside { IfOk result (λ done. OnFalse done
             (contents self.new ≡ contents self.old)) }
-        ensures refused { OnErr result (contents self.new ≡ contents self.old) };
+        ensures refused { OnErr result (contents self.new ≡ contents self.old) }
+        ensures spared { IsFalse may_refuse → IsOk result };
 
     /// Writes the `len` bytes that stood at `from` to `to`, as if through a buffer.
     fn copy(&mut self, to: u64, from: u64, len: u64) -> Result<bool, AllocError>
@@ -73,7 +78,8 @@ pub trait Linear: Drop {
             (contents self.new ≡ written (contents self.old) to (part (contents self.old) from len))) }
         ensures outside { IfOk result (λ done. OnFalse done
             (contents self.new ≡ contents self.old)) }
-        ensures refused { OnErr result (contents self.new ≡ contents self.old) };
+        ensures refused { OnErr result (contents self.new ≡ contents self.old) }
+        ensures spared { IsFalse may_refuse → IsOk result };
 
     /// Writes these bytes from `at` on.
     fn write_slice(&mut self, at: u64, bytes: &[u8]) -> Result<bool, AllocError>
@@ -83,7 +89,8 @@ pub trait Linear: Drop {
             (contents self.new ≡ written (contents self.old) at bytes.now)) }
         ensures outside { IfOk result (λ done. OnFalse done
             (contents self.new ≡ contents self.old)) }
-        ensures refused { OnErr result (contents self.new ≡ contents self.old) };
+        ensures refused { OnErr result (contents self.new ≡ contents self.old) }
+        ensures spared { IsFalse may_refuse → IsOk result };
 
     /// Copies the bytes from `at` on, as many as `out` takes.
     fn read_into(&self, at: u64, out: &mut [u8]) -> bool

@@ -1,6 +1,6 @@
 //! A memory in one vector.
 
-ghost use Rattle.std.specs.Prelude.{◌≡◌, ◌+◌, ◌^◌, ◌<◌, ◌≤◌, ◌↔◌, length, replicate, IsTrue, IfOk, IsOk, OnErr, SomeIff};
+ghost use Rattle.std.specs.Prelude.{◌≡◌, ◌+◌, ◌^◌, ◌<◌, ◌≤◌, ◌↔◌, length, replicate, false, IsTrue, IfOk, IsOk, OnErr, SomeIff};
 ghost use Rattle.std.specs.Bool.{OnTrue, OnFalse};
 ghost use Rattle.wz_linear.specs.Bytes.{IsAccessWidth, IsWithin, number_of, bytes_of, part, written};
 
@@ -41,6 +41,8 @@ impl PlainMemory {
 
 impl Linear for PlainMemory {
     ghost contents = { λ memory. memory };
+
+    ghost may_refuse = { false };
 
     fn zeroed(alloc: Global, pages: u32) -> Result<Self, AllocError> {
         let mut bytes = Vec::new(alloc);
