@@ -1,5 +1,5 @@
 -- A step of what stands in a context is a step of the whole.
-use Rattle.std.proofs.Common.{◌≡◌, ℕ, zero, suc, List, [], ◌∷◌, ◌++◌, Bool, true, false, if◌then◌else◌, ◌==◌, nat_le, length, take, refl, ap, ◌∙◌}
+use Rattle.std.proofs.Common.{◌≡◌, ℕ, zero, suc, List, [], ◌∷◌, ◌++◌, Bool, true, false, if◌then◌else◌, ◌==◌, nat_le, length, take, refl, ap, ◌∙◌, arith}
 use Rattle.wz_types.specs.declared.trap.TrapKind.{TrapKind}
 use Rattle.wz_types.specs.declared.value.Value.{Value}
 use Rattle.wz_store.specs.Changes.{Change, Nothing}
@@ -8,7 +8,7 @@ use Rattle.wz_machine.specs.Terms.{Question}
 use Rattle.wz_machine.specs.Outcomes.{Reduct, Goes, Finishes, Branches, Returns, Pauses, Traps, Sticks, Answer, Next, Trap, Ask, Stuck}
 use Rattle.wz_machine.specs.BlockSteps.{arrival, label_reduct, frame_reduct}
 use Rattle.wz_machine.specs.Step.{frame_answer, step}
-use Rattle.wz_machine.specs.Contexts.{FrameContent, Layer, LabelLayer, FrameLayer, in_layer, term_in, code_content, content_reduct, branch_answer, return_answer, end_answer, StepWithin}
+use Rattle.wz_machine.specs.Contexts.{FrameContent, Layer, LabelLayer, FrameLayer, in_layer, term_in, code_content, content_reduct, branch_answer, return_answer, end_answer, StepWithin, FramesWithin, LocalsWithin}
 
 -- what a step of the content comes to, seen from each layer in turn
 abbrev answer_from : ℕ → List Layer → List Value → Reduct → Answer
@@ -89,3 +89,17 @@ step_within s results layers content =
       returns = λ values e. from (Returns values) e ∙ from-returns results layers content.locals values;
       ends = λ values e. from (Finishes values) e ∙ from-ends results layers content.locals values;
     }
+
+-- ---- frames and their locals
+
+pub frames_within : FramesWithin
+frames_within results [] content = refl
+frames_within results (LabelLayer below count again rest ∷ layers) content = frames_within results layers (in_layer (LabelLayer below count again rest) content)
+frames_within results (FrameLayer below count rest outer ∷ layers) content =
+    let r = frames_within results layers (in_layer (FrameLayer below count rest outer) content) in omega (arith, r)
+
+pub locals_within : LocalsWithin
+locals_within results [] content = omega arith
+locals_within results (LabelLayer below count again rest ∷ layers) content = locals_within results layers (in_layer (LabelLayer below count again rest) content)
+locals_within results (FrameLayer below count rest outer ∷ layers) content =
+    let r = locals_within results layers (in_layer (FrameLayer below count rest outer) content) in omega (arith, r)

@@ -11,7 +11,7 @@ use Rattle.wz_store.specs.State.{Table, Memory, Element, pages_of}
 use Rattle.wz_store.specs.Changes.{GrowTable, GrowMemory, applied}
 use Rattle.wz_machine.specs.declared.questions.FloatReply.{FloatReply}
 use Rattle.wz_machine.specs.declared.questions.FloatReply.TheVariants as reply
-use Rattle.wz_machine.specs.Bulk.{may_grow, may_extend}
+use Rattle.wz_store.specs.Growth.{may_extend, may_grow}
 use Rattle.wz_machine.specs.BulkSteps.{minus_one}
 use Rattle.wz_machine.specs.State.{FunctionBody, OwnBody, ImportedBody, NoBody, FunctionInstance, Callable, callable_at, State, LastingParts, lasting_parts}
 use Rattle.wz_machine.specs.Terms.{Inside, Innermost, InLabel, InFrame, Term, Frame, BareValues, AskFloat, AskMemory, AskTable, AskHost, Standing, Runs, Waits}

@@ -14,7 +14,7 @@ use Rattle.wz_valid_code.specs.Context.{TypingContext, Scope, Labels, shape_type
 use Rattle.wz_valid_code.specs.Instructions.{rule_of}
 use Rattle.wz_valid_code.specs.Typing.{IsTyped}
 use Rattle.wz_store.specs.State.{Memory, Element}
-use Rattle.wz_store.specs.Changes.{Change, applied}
+use Rattle.wz_store.specs.Changes.{applied}
 use Rattle.wz_machine.specs.State.{FunctionBody, OwnBody, ImportedBody, NoBody, FunctionInstance, State, LastingParts, lasting_parts}
 use Rattle.wz_machine.specs.Leaves.{CodeHas, BodyHas, FunctionsHave}
 use Rattle.wz_machine.specs.Within.{InstrWithin, LeafWithin, NamesIn}

@@ -9,7 +9,7 @@ use Rattle.wz_types.specs.Fits.{type_of_kind}
 use Rattle.wz_linear.specs.Bytes.{part}
 use Rattle.wz_store.specs.State.{Global, Table, Memory, pages_of}
 use Rattle.wz_store.specs.Changes.{Change, Nothing, SetGlobal, WriteTable, WriteMemory, GrowTable, GrowMemory}
-use Rattle.wz_machine.specs.Bulk.{may_grow, may_extend}
+use Rattle.wz_store.specs.Growth.{may_extend, may_grow}
 use Rattle.wz_machine.specs.State.{State}
 use Rattle.wz_machine.specs.Exports.{ExternalValue, ExternalTable, ExternalMemory, ExternalGlobal}
 use Rattle.wz_machine.specs.Moves.{Event, Refused, Went, BytesRead, HeldSize, HeldValue}

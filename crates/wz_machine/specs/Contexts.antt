@@ -1,7 +1,7 @@
 -- Section 4.2.15 of the Core Specification (evaluation contexts): what stands around the innermost code of a term, as a stack of layers,
 -- the innermost first. A step of what stands in a context is the step of the whole term, so a machine that keeps the layers in a stack
 -- has only to know what its innermost code does.
-use Rattle.std.specs.Prelude.{◌≡◌, ℕ, zero, suc, nat_le, ◌==◌, List, [], ◌∷◌, ◌++◌, Option, if◌then◌else◌, length, take, reverse}
+use Rattle.std.specs.Prelude.{◌≡◌, ℕ, zero, suc, ◌+◌, nat_le, ◌==◌, List, [], ◌∷◌, ◌++◌, Option, if◌then◌else◌, length, take, reverse}
 use Rattle.wz_types.specs.declared.trap.TrapKind.{TrapKind}
 use Rattle.wz_types.specs.declared.value.Value.{Value}
 use Rattle.wz_code.specs.Trees.{Code}
@@ -9,6 +9,7 @@ use Rattle.wz_store.specs.Changes.{Change, Nothing}
 use Rattle.wz_machine.specs.State.{State}
 use Rattle.wz_machine.specs.Terms.{Inside, Innermost, InLabel, InFrame, Term, Frame, Question}
 use Rattle.wz_machine.specs.Outcomes.{Reduct, Goes, Finishes, Branches, Returns, Pauses, Traps, Sticks, Answer, Next, Done, Trap, Ask, Stuck}
+use Rattle.wz_machine.specs.Frames.{frames_inside, frame_count, locals_inside, local_count}
 use Rattle.wz_machine.specs.BlockSteps.{arrival}
 use Rattle.wz_machine.specs.Step.{inside_reduct, results_answer, step}
 
@@ -89,3 +90,25 @@ pub record StepsWithin (s : State) (results : ℕ) (layers : List Layer) (conten
 
 abbrev pub StepWithin : Type 0
 StepWithin = (s : State) (results : ℕ) (layers : List Layer) (content : FrameContent) → StepsWithin s results layers content
+
+-- ---- frames and their locals
+
+abbrev pub frame_layers : List Layer → ℕ
+frame_layers [] = 0
+frame_layers (LabelLayer below count again rest ∷ layers) = frame_layers layers
+frame_layers (FrameLayer below count rest locals ∷ layers) = 1 + frame_layers layers
+
+abbrev pub layer_locals : List Layer → ℕ
+layer_locals [] = 0
+layer_locals (LabelLayer below count again rest ∷ layers) = layer_locals layers
+layer_locals (FrameLayer below count rest locals ∷ layers) = length locals + layer_locals layers
+
+-- one for the outermost frame, each of the layers, and those within
+abbrev pub FramesWithin : Type 0
+FramesWithin = (results : ℕ) (layers : List Layer) (content : FrameContent)
+    → frame_count (term_in results layers content) ≡ 1 + frame_layers layers + frames_inside content.inside
+
+-- the innermost frame's, those of the frames around it, and those within
+abbrev pub LocalsWithin : Type 0
+LocalsWithin = (results : ℕ) (layers : List Layer) (content : FrameContent)
+    → local_count (term_in results layers content) ≡ length content.locals + layer_locals layers + locals_inside content.inside

@@ -1,7 +1,7 @@
 pub mod State
 pub mod Terms
+pub mod Frames
 pub mod Outcomes
-pub mod Bulk
 pub mod BulkSteps
 pub mod NumericSteps
 pub mod ReferenceSteps

@@ -1,6 +1,6 @@
 -- Section 4.4.7 of the Core Specification: memory instructions. They read and write the memories that they name, and memory.init and
 -- data.drop their data segment.
-use Rattle.std.specs.Prelude.{ℕ, ◌+◌, ◌*◌, nat_le, List, ◌∷◌, Option, Some, None, Bool, true, false, if◌then◌else◌, length}
+use Rattle.std.specs.Prelude.{ℕ, ◌+◌, ◌*◌, ◌%◌, nat_le, List, ◌∷◌, Option, Some, None, Bool, true, false, if◌then◌else◌, length}
 use Rattle.wz_types.specs.declared.types.ValType.{ValType}
 use Rattle.wz_types.specs.declared.types.ValType.TheVariants as valtype
 use Rattle.wz_types.specs.declared.trap.TrapKind.TheVariants.{MemoryBounds}
@@ -11,7 +11,8 @@ use Rattle.wz_num.specs.Conversions.{extend_s, extend_u}
 use Rattle.wz_linear.specs.Bytes.{number_of, bytes_of, part}
 use Rattle.wz_store.specs.State.{Memory, pages_of}
 use Rattle.wz_store.specs.Changes.{Nothing, WriteMemory}
-use Rattle.wz_machine.specs.Bulk.{memory_init, memory_copy, memory_fill, data_drop, may_grow}
+use Rattle.wz_store.specs.Growth.{may_grow}
+use Rattle.wz_bulk.specs.MemoryEffects.{memory_fill_effect, memory_copy_effect, memory_init_effect, data_drop_effect}
 use Rattle.wz_machine.specs.Terms.{AskMemory}
 use Rattle.wz_machine.specs.Outcomes.{Effect, Yields, Poses, Fails, HasNoRule}
 use Rattle.wz_machine.specs.BulkSteps.{bulk_step, minus_one}
@@ -102,21 +103,21 @@ memory_grow_step index memory values = HasNoRule
 
 -- ---- ranges
 
--- memory.fill
+-- memory.fill: with the low byte of its operand
 abbrev pub memory_fill_step : ℕ → Option Memory → List Value → Effect
-memory_fill_step index memory (I32 count ∷ I32 byte ∷ I32 to ∷ values) = bulk_step values (memory_fill index memory to byte count)
+memory_fill_step index memory (I32 count ∷ I32 bits ∷ I32 to ∷ values) = bulk_step values (memory_fill_effect index memory to (bits % 256) count)
 memory_fill_step index memory values = HasNoRule
 
 -- memory.copy
 abbrev pub memory_copy_step : ℕ → Option Memory → Option Memory → List Value → Effect
-memory_copy_step index memory source (I32 count ∷ I32 from ∷ I32 to ∷ values) = bulk_step values (memory_copy index memory source to from count)
+memory_copy_step index memory source (I32 count ∷ I32 from ∷ I32 to ∷ values) = bulk_step values (memory_copy_effect index memory source to from count)
 memory_copy_step index memory source values = HasNoRule
 
 -- memory.init x
 abbrev pub memory_init_step : ℕ → Option Memory → Option (List ℕ) → List Value → Effect
-memory_init_step index memory segment (I32 count ∷ I32 from ∷ I32 to ∷ values) = bulk_step values (memory_init index memory segment to from count)
+memory_init_step index memory segment (I32 count ∷ I32 from ∷ I32 to ∷ values) = bulk_step values (memory_init_effect index memory segment to from count)
 memory_init_step index memory segment values = HasNoRule
 
 -- data.drop x
 abbrev pub data_drop_step : ℕ → Option (List ℕ) → List Value → Effect
-data_drop_step index segment values = bulk_step values (data_drop index segment)
+data_drop_step index segment values = bulk_step values (data_drop_effect index segment)

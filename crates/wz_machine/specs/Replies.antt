@@ -13,7 +13,7 @@ use Rattle.wz_store.specs.Changes.{Change, Nothing, GrowTable, GrowMemory}
 use Rattle.wz_machine.specs.declared.questions.Growth.TheVariants as growth
 use Rattle.wz_machine.specs.declared.questions.FloatReply.{FloatReply}
 use Rattle.wz_machine.specs.declared.questions.FloatReply.TheVariants as reply
-use Rattle.wz_machine.specs.Bulk.{may_grow, may_extend}
+use Rattle.wz_store.specs.Growth.{may_extend, may_grow}
 use Rattle.wz_machine.specs.BulkSteps.{minus_one}
 use Rattle.wz_machine.specs.State.{Callable, callable_at, State}
 use Rattle.wz_machine.specs.Terms.{Inside, Innermost, InLabel, InFrame, Term, Frame, BareValues, Question, AskFloat, AskMemory, AskTable, AskHost, Standing, Runs, Waits}

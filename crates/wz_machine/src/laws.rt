@@ -1,7 +1,7 @@
 //! Laws of steps and of sessions, for the proofs of other crates. A law is the contract of a function
 //! that does nothing.
 
-ghost use Rattle.wz_machine.specs.Contexts.{StepWithin};
+ghost use Rattle.wz_machine.specs.Contexts.{StepWithin, FramesWithin, LocalsWithin};
 ghost use Rattle.wz_machine.specs.Flat.{PlainStep, LocalStep, OpeningStep};
 ghost use Rattle.wz_machine.specs.Flat.{LeavingTerm, LoopingTerm};
 ghost use Rattle.wz_machine.specs.Laws.{LeafReads, StepReads, MemoryGrowthReads, TableGrowthReads};
@@ -45,6 +45,13 @@ pub fn more_segments_are_not_seen()
 #[tactic(auto, using(crate::proofs::ContextLemmas::step_within))]
 pub fn steps_within()
     ensures { StepWithin }
+{}
+
+/// How many frames and locals a term has, by what stands around its innermost code.
+#[tactic(auto, using(crate::proofs::ContextLemmas::frames_within, crate::proofs::ContextLemmas::locals_within))]
+pub fn frames_within()
+    ensures frames { FramesWithin }
+    ensures locals { LocalsWithin }
 {}
 
 /// A step of the innermost block of flat stacks is a step of the term that they stand for.
