@@ -22,7 +22,8 @@ map-altered f alter same (x ∷ xs) (suc i) = ap (λ ys. f x ∷ ys) (map-altere
 table-kept : (s : State) (alter : Table → Table) → ((table : Table) → (alter table).kind ≡ table.kind) → ((table : Table) → (alter table).maximum ≡ table.maximum) → (index : ℕ)
     → lasting_parts (record s { tables = altered alter s.tables index }) ≡ lasting_parts s
 table-kept s alter kind maximum index =
-    ap (λ (kinds : List RefKind). record (lasting_parts (record s { tables = altered alter s.tables index })) { table_kinds = kinds }) (map-altered (λ (table : Table). table.kind) alter kind s.tables index)
+    ap (λ (kinds : List RefKind). record (lasting_parts (record s { tables = altered alter s.tables index })) { table_kinds = kinds })
+    (map-altered (λ (table : Table). table.kind) alter kind s.tables index)
     ∙ ap (λ (maxima : List (Option ℕ)). record (lasting_parts s) { table_maxima = maxima }) (map-altered (λ (table : Table). table.maximum) alter maximum s.tables index)
 
 memory-kept : (s : State) (alter : Memory → Memory) → ((memory : Memory) → (alter memory).maximum ≡ memory.maximum) → (index : ℕ)
@@ -33,13 +34,15 @@ memory-kept s alter maximum index =
 pub change_keeps : ChangeKeeps
 change_keeps Nothing s = refl
 change_keeps (SetGlobal index value) s =
-    ap (λ (types : List GlobalType). record (lasting_parts s) { globals = types }) (map-altered (λ (global : Global). global.type) (λ global. with_content value global) (λ global. refl) s.globals index)
+    ap (λ (types : List GlobalType). record (lasting_parts s) { globals = types })
+    (map-altered (λ (global : Global). global.type) (λ global. with_content value global) (λ global. refl) s.globals index)
 change_keeps (WriteTable index at new) s = table-kept s (λ table. with_entries at new table) (λ table. refl) (λ table. refl) index
 change_keeps (GrowTable index by reference) s = table-kept s (λ table. with_more_entries by reference table) (λ table. refl) (λ table. refl) index
 change_keeps (WriteMemory index at bytes) s = memory-kept s (λ memory. with_bytes at bytes memory) (λ memory. refl) index
 change_keeps (GrowMemory index pages) s = memory-kept s (λ memory. with_more_pages pages memory) (λ memory. refl) index
 change_keeps (EmptyElement index) s =
-    ap (λ (kinds : List RefKind). record (lasting_parts s) { element_kinds = kinds }) (map-altered (λ (element : Element). element.kind) (λ element. without_items element) (λ element. refl) s.elements index)
+    ap (λ (kinds : List RefKind). record (lasting_parts s) { element_kinds = kinds })
+    (map-altered (λ (element : Element). element.kind) (λ element. without_items element) (λ element. refl) s.elements index)
 change_keeps (EmptyData index) s = ap (λ (n : ℕ). record (lasting_parts s) { datas = n }) (length-altered (λ (bytes : List ℕ). []) s.datas index)
 
 pub change_reaches_state : ChangeReachesState

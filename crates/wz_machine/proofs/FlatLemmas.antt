@@ -66,10 +66,11 @@ pub plain_step : PlainStep
 plain_step s m leaf rest change values at does placed front =
     let own : List Value = own_values m.top values in
     let locals : List Value = locals_in m.top m.values in
+    let top : Opened = record m.top { rest = rest } in
     let same : locals ≡ locals_in m.top values = sym (locals-front m.top m.top.height values m.values placed.locals placed.height front) in
     goes-on s m rest (take m.top.base values) change (code_content locals own rest) (leaf-reduct s m leaf rest (Does (Yields change own)) at does)
     (ap (λ (below : List Value). layers_of m.top m.outer below) (sym (take-front m.top.base m.top.height values m.values placed.base front)))
-    ∙ ap (λ (ls : List Value). Next change (term_in (results_of (record m.top { rest = rest }) m.outer) (layers_of (record m.top { rest = rest }) m.outer (take m.top.base values)) (code_content ls own rest))) same
+    ∙ ap (λ (ls : List Value). Next change (term_in (results_of top m.outer) (layers_of top m.outer (take m.top.base values)) (code_content ls own rest))) same
 
 -- ---- a local is set
 
@@ -85,7 +86,8 @@ label-set parent parents below place value layer under same =
     ∙ ap (λ (ls : List Layer). layer (own_values parent below) ∷ ls) same
 
 -- a block has its function's locals, and so has the parent
-parent-set : (kind : OpenKind) (child parent : Opened) (parents : List Opened) (xs : List Value) (place : ℕ) (value : Value) → HasLocals kind child parent → HasPlaces parent
+parent-set : (kind : OpenKind) (child parent : Opened) (parents : List Opened) (xs : List Value) (place : ℕ) (value : Value)
+    → HasLocals kind child parent → HasPlaces parent
     → child.locals_at ≤ place → place < child.locals_end
     → ((ys : List Value) → parent.locals_at ≤ place → place < parent.locals_end
     → layers_of parent parents (take parent.base (slice_set ys place value)) ≡ layers_of parent parents (take parent.base ys))
@@ -108,7 +110,8 @@ parent-set (OpenLoop again) child parent parents xs place value has placed from 
     (on (take child.base xs) (omega (arith, has.0, from)) (omega (arith, has.1, to)))
 
 -- the layers around a block are the same, since its function's locals are no part of them
-layers-set : (parents : List Opened) (child : Opened) (xs : List Value) (place : ℕ) (value : Value) → IsNested child parents → child.locals_at ≤ place → place < child.locals_end
+layers-set : (parents : List Opened) (child : Opened) (xs : List Value) (place : ℕ) (value : Value)
+    → IsNested child parents → child.locals_at ≤ place → place < child.locals_end
     → layers_of child parents (take child.base (slice_set xs place value)) ≡ layers_of child parents (take child.base xs)
 layers-set [] child xs place value nested from to = refl
 layers-set (parent ∷ parents) child xs place value nested from to =
@@ -135,33 +138,37 @@ opening_step s m rest new values reduct under =
 pub leaving_term : LeavingTerm
 leaving_term parent parents below carried placed le =
     let values : List Value = below ++ reverse carried in
+    let whole : List Value → List Value → List Value → Term =
+    λ xs locals own. term_in (results_of parent parents) (layers_of parent parents xs) (code_content locals own parent.rest) in
     let base : take parent.base values ≡ take parent.base below = take-append-le parent.base below (reverse carried) (omega (arith, placed.base, le)) in
     let locals : locals_in parent values ≡ locals_in parent below =
-    locals-front parent parent.height values below placed.locals placed.height (take-append-le parent.height below (reverse carried) le
-    ) in
-    sym (ap (λ (xs : List Value). term_in (results_of parent parents) (layers_of parent parents xs) (code_content (locals_in parent values) (own_values parent values) parent.rest)) base
-    ∙ ap (λ (ls : List Value). term_in (results_of parent parents) (layers_of parent parents (take parent.base below)) (code_content ls (own_values parent values) parent.rest)) locals
-    ∙ ap (λ (own : List Value). term_in (results_of parent parents) (layers_of parent parents (take parent.base below)) (code_content (locals_in parent below) own parent.rest))
-    (own-append parent below carried le))
+    locals-front parent parent.height values below placed.locals placed.height (take-append-le parent.height below (reverse carried) le) in
+    sym (ap (λ (xs : List Value). whole xs (locals_in parent values) (own_values parent values)) base
+    ∙ ap (λ (ls : List Value). whole (take parent.base below) ls (own_values parent values)) locals
+    ∙ ap (λ (own : List Value). whole (take parent.base below) (locals_in parent below) own) (own-append parent below carried le))
 
-looping : (kind : OpenKind) (child : Opened) (again : Code) (parent : Opened) (parents : List Opened) (below : List Value) (content : FrameContent) → kind ≡ OpenLoop again
-    → term_in (results_of parent parents) (layers_of parent parents (take parent.base below)) (in_layer (LabelLayer (own_values parent below) child.arity (Some again) parent.rest) content)
-    ≡ term_in (results_of parent parents) (layer_of kind child.arity (own_values parent below) parent.rest (locals_in parent below) ∷ layers_of parent parents (take parent.base below)) content
-looping kind child again parent parents below content e =
-    ap (λ (k : OpenKind). term_in (results_of parent parents) (layer_of k child.arity (own_values parent below) parent.rest (locals_in parent below) ∷ layers_of parent parents (take parent.base below)) content)
-    (sym e)
+-- the layer of a loop, whose kind is known
+looping : (kind : OpenKind) (child : Opened) (again : Code) (parent : Opened) (layers : List Layer) (results : ℕ) (below locals : List Value) (content : FrameContent)
+    → kind ≡ OpenLoop again
+    → term_in results layers (in_layer (LabelLayer below child.arity (Some again) parent.rest) content)
+    ≡ term_in results (layer_of kind child.arity below parent.rest locals ∷ layers) content
+looping kind child again parent layers results below locals content e =
+    ap (λ (k : OpenKind). term_in results (layer_of k child.arity below parent.rest locals ∷ layers) content) (sym e)
 
 pub looping_term : LoopingTerm
 looping_term child again parent parents below carried kind base height end start =
     let values : List Value = below ++ reverse carried in
     let layers : List Value → List Layer =
     λ xs. layer_of child.kind child.arity (own_values parent xs) parent.rest (locals_in parent xs) ∷ layers_of parent parents (take parent.base xs) in
+    let whole : List Value → List Value → List Value → Term =
+    λ xs locals own. term_in (results_of parent parents) (layers xs) (code_content locals own again) in
     let all : take child.base values ≡ below = ap (λ (n : ℕ). take n values) base ∙ take-append_seam below (reverse carried) in
     let locals : locals_in child values ≡ locals_in child below =
     locals-front child (length below) values below start end (take-append-le (length below) below (reverse carried) (omega arith)) in
     let own : own_values child values ≡ carried =
     ap (λ (n : ℕ). reverse (drop n values)) height ∙ ap (λ (xs : List Value). reverse xs) (drop-append_seam below (reverse carried)) ∙ reverse-reverse carried in
-    looping child.kind child again parent parents below (code_content (locals_in child below) carried again) kind
-    ∙ sym (ap (λ (xs : List Value). term_in (results_of parent parents) (layers xs) (code_content (locals_in child values) (own_values child values) again)) all
-    ∙ ap (λ (ls : List Value). term_in (results_of parent parents) (layers below) (code_content ls (own_values child values) again)) locals
-    ∙ ap (λ (vs : List Value). term_in (results_of parent parents) (layers below) (code_content (locals_in child below) vs again)) own)
+    looping child.kind child again parent (layers_of parent parents (take parent.base below)) (results_of parent parents) (own_values parent below) (locals_in parent below)
+    (code_content (locals_in child below) carried again) kind
+    ∙ sym (ap (λ (xs : List Value). whole xs (locals_in child values) (own_values child values)) all
+    ∙ ap (λ (ls : List Value). whole below ls (own_values child values)) locals
+    ∙ ap (λ (vs : List Value). whole below (locals_in child below) vs) own)

@@ -93,21 +93,24 @@ module _ (Is : Leaf → Type 0) where
   invocation-has type (ImportedBody number) arguments values h = tt
   invocation-has type NoBody arguments values h = tt
 
-  arguments-has : (type : FunctionType) (outcome : List Value → List Value → Outcome) (values : List Value) → ((arguments below : List Value) → OutcomeHas Is (outcome arguments below))
-      → OutcomeHas Is (with_arguments type outcome values)
+  arguments-has : (type : FunctionType) (outcome : List Value → List Value → Outcome) (values : List Value)
+      → ((arguments below : List Value) → OutcomeHas Is (outcome arguments below)) → OutcomeHas Is (with_arguments type outcome values)
   arguments-has type outcome values h =
       let n : ℕ = length type.params in
-      if-both (λ (o : Outcome). OutcomeHas Is o) (nat_le n (length values)) (outcome (reverse (take n values)) (drop n values)) (Does HasNoRule) (h (reverse (take n values)) (drop n values)) tt
+      if-both (λ (o : Outcome). OutcomeHas Is o) (nat_le n (length values)) (outcome (reverse (take n values)) (drop n values)) (Does HasNoRule)
+      (h (reverse (take n values)) (drop n values)) tt
 
   call-has : (function : Option Callable) (values : List Value) → CallableHas Is function → OutcomeHas Is (call_step function values)
   call-has None values h = tt
   call-has (Some function) values h =
-      arguments-has function.type (λ arguments below. invocation function.type function.body arguments below) values (λ arguments below. invocation-has function.type function.body arguments below h)
+      arguments-has function.type (λ arguments below. invocation function.type function.body arguments below) values
+      (λ arguments below. invocation-has function.type function.body arguments below h)
 
   expected-has : (type : FunctionType) (function : Option Callable) (values : List Value) → CallableHas Is function → OutcomeHas Is (expected_call type function values)
   expected-has type None values h = tt
   expected-has type (Some function) values h =
-      if-both (λ (o : Outcome). OutcomeHas Is o) (same_function_type function.type type) (call_step (Some function) values) (Does (Fails IndirectType)) (call-has (Some function) values h) tt
+      if-both (λ (o : Outcome). OutcomeHas Is o) (same_function_type function.type type) (call_step (Some function) values) (Does (Fails IndirectType))
+      (call-has (Some function) values h) tt
 
   host-has : (type : FunctionType) (id : ℕ) (values : List Value) → OutcomeHas Is (host_call type id values)
   host-has type id values = arguments-has type (λ arguments below. Does (Poses (AskHost (target.Foreign id) arguments type) below)) values (λ arguments below. tt)

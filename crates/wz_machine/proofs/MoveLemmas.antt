@@ -114,7 +114,8 @@ module _ (Is : Leaf → Type 0) where
     table-has stack index by reference rest below None h t b = h
     table-has stack index by reference rest below (Some table) h t b =
         if-both (λ (r : Reply). ReplyHas Is r) (may_extend (length table.entries) table.maximum by)
-        (change_reply Went (GrowTable index by reference) (Runs (put (I32 (length table.entries) ∷ []) rest) ∷ below)) (refusal stack) (put-has (I32 (length table.entries) ∷ []) rest t, b) h
+        (change_reply Went (GrowTable index by reference) (Runs (put (I32 (length table.entries) ∷ []) rest) ∷ below)) (refusal stack)
+        (put-has (I32 (length table.entries) ∷ []) rest t, b) h
 
     grow-has : (stack : List Standing) (granted : Bool) → StackHas Is stack → ReplyHas Is (grow_reply s stack granted)
     grow-has (Waits (AskMemory index by) rest ∷ below) true h = memory-has (Waits (AskMemory index by) rest ∷ below) index by rest below (slice_get s.memories index) h h.0 h.1
@@ -158,7 +159,8 @@ names-kept s now kept P h =
 
 functions-kept : (s now : State) → lasting_parts now ≡ lasting_parts s → NamesWithin s → NamesWithin now
 functions-kept s now kept names =
-    subst (λ (fs : List FunctionInstance). FunctionsHave (NamesIn now) fs) (sym (ap (λ (parts : LastingParts). parts.functions) kept)) (names-kept s now kept (λ Is. FunctionsHave Is s.functions) names)
+    subst (λ (fs : List FunctionInstance). FunctionsHave (NamesIn now) fs) (sym (ap (λ (parts : LastingParts). parts.functions) kept))
+    (names-kept s now kept (λ Is. FunctionsHave Is s.functions) names)
 
 observe_from-same : (exports : List ExportInstance) (moves : List Move) (s : State) (elements : List Element) (datas : List (List ℕ)) (stack : List Standing)
     → NamesWithin s → StackHas (NamesIn s) stack → observe_from exports (with_more s elements datas) stack moves ≡ observe_from exports s stack moves

@@ -18,7 +18,7 @@ use Rattle.wz_store.specs.Changes.{applied}
 use Rattle.wz_machine.specs.State.{FunctionBody, OwnBody, ImportedBody, NoBody, FunctionInstance, State, LastingParts, lasting_parts}
 use Rattle.wz_machine.specs.Leaves.{CodeHas, BodyHas, FunctionsHave}
 use Rattle.wz_machine.specs.Within.{InstrWithin, LeafWithin, NamesIn}
-use Rattle.wz_machine.specs.TypedState.{numbers_from, context_of, BodyTyped}
+use Rattle.wz_machine.specs.TypedState.{numbers_from, state_context, BodyTyped}
 use Rattle.wz_machine.specs.Laws.{TypedNames, ContextLasts}
 use Rattle.wz_machine.proofs.ChangeLemmas.{change_keeps}
 
@@ -86,18 +86,19 @@ functions-of : (Is : Leaf → Type 0) (functions : List FunctionInstance)
 functions-of Is [] h = tt
 functions-of Is (function ∷ functions) h = (h zero function refl, functions-of Is functions (λ index. h (suc index)))
 
-body-within : (s : State) (type : FunctionType) (body : FunctionBody) → BodyTyped (context_of s) type body → BodyHas (NamesIn s) body
+body-within : (s : State) (type : FunctionType) (body : FunctionBody) → BodyTyped (state_context s) type body → BodyHas (NamesIn s) body
 body-within s type (OwnBody locals code) h =
     subst (λ (n : ℕ). CodeHas (λ leaf. LeafWithin n (length s.datas) leaf) code) (length-map s.elements (λ (element : Element). element.kind))
-    (code-within (record { context = context_of s; locals = type.params ++ locals; results = type.results }) (type.results ∷ []) code [] type.results h)
+    (code-within (record { context = state_context s; locals = type.params ++ locals; results = type.results }) (type.results ∷ []) code [] type.results h)
 body-within s type (ImportedBody number) h = tt
 body-within s type NoBody h = tt
 
 pub typed_names : TypedNames
 typed_names s typed =
     functions-of (NamesIn s) s.functions
-    (λ index function is. of-some (slice_get s.types function.signature) (λ type. BodyTyped (context_of s) type function.body) (BodyHas (NamesIn s) function.body) (typed.functions index function is)
-    (λ type h. body-within s type function.body h))
+    (λ index function is.
+    of-some (slice_get s.types function.signature) (λ type. BodyTyped (state_context s) type function.body) (BodyHas (NamesIn s) function.body)
+    (typed.functions index function is) (λ type h. body-within s type function.body h))
 
 -- ---- the context
 
@@ -115,8 +116,8 @@ context_by parts = record {
   declared = numbers_from 0 (length parts.functions);
 }
 
-by-lasting : (s : State) → context_by (lasting_parts s) ≡ context_of s
-by-lasting s = ap (λ (n : ℕ). record (context_of s) { memories = n }) (length-map s.memories (λ (memory : Memory). memory.maximum))
+by-lasting : (s : State) → context_by (lasting_parts s) ≡ state_context s
+by-lasting s = ap (λ (n : ℕ). record (state_context s) { memories = n }) (length-map s.memories (λ (memory : Memory). memory.maximum))
 
 pub context_lasts : ContextLasts
 context_lasts change s = sym (by-lasting (applied change s)) ∙ ap (λ (parts : LastingParts). context_by parts) (change_keeps change s) ∙ by-lasting s

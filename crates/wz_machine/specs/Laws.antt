@@ -16,7 +16,7 @@ use Rattle.wz_machine.specs.Exports.{ExportInstance}
 use Rattle.wz_machine.specs.Moves.{Move}
 use Rattle.wz_machine.specs.Sessions.{observe}
 use Rattle.wz_machine.specs.Leaves.{TermHas, FunctionsHave, AnswerHas}
-use Rattle.wz_machine.specs.TypedState.{context_of, IsStateTyped}
+use Rattle.wz_machine.specs.TypedState.{state_context, IsStateTyped}
 use Rattle.wz_machine.specs.Within.{with_parts, LeafLooksAlike, LeafWithin, NamesIn, NamesWithin, with_more}
 
 -- ---- what is read
@@ -82,8 +82,8 @@ ObservesSame = (s : State) (elements : List Element) (datas : List (List ℕ)) (
 
 -- in a typed state no function names a segment that isn't there
 abbrev pub TypedNames : Type 0
-TypedNames = (s : State) → IsStateTyped (context_of s) s → NamesWithin s
+TypedNames = (s : State) → IsStateTyped (state_context s) s → NamesWithin s
 
 -- a typed state's context is made of what lasts
 abbrev pub ContextLasts : Type 0
-ContextLasts = (change : Change) (s : State) → context_of (applied change s) ≡ context_of s
+ContextLasts = (change : Change) (s : State) → state_context (applied change s) ≡ state_context s

@@ -19,8 +19,8 @@ abbrev pub numbers_from : ℕ → ℕ → List ℕ
 numbers_from first zero = []
 numbers_from first (suc count) = first ∷ numbers_from (first + 1) count
 
-abbrev pub context_of : State → TypingContext
-context_of s = record {
+abbrev pub state_context : State → TypingContext
+state_context s = record {
   types = s.types;
   functions = map (λ (function : FunctionInstance). function.signature) s.functions;
   tables = map (λ (table : Table). table.kind) s.tables;
@@ -47,7 +47,8 @@ HoldsBytes bytes = (at byte : ℕ) → slice_get bytes at ≡ Some byte → byte
 
 -- an own function's body is there, and typed; its outermost label is the function's own
 abbrev pub BodyTyped : TypingContext → FunctionType → FunctionBody → Type 0
-BodyTyped context type (OwnBody locals code) = IsTyped (record { context = context; locals = type.params ++ locals; results = type.results }) (type.results ∷ []) code [] type.results
+BodyTyped context type (OwnBody locals code) =
+    IsTyped (record { context = context; locals = type.params ++ locals; results = type.results }) (type.results ∷ []) code [] type.results
 BodyTyped context type (ImportedBody number) = Unit {0}
 BodyTyped context type NoBody = ⊥
 

@@ -1,5 +1,5 @@
-//! Laws of steps and of sessions, for the proofs of other crates. A law is the contract of a function
-//! that does nothing.
+//! Laws of steps and of sessions, for the proofs of other crates. A law is the contract of a
+//! function that does nothing.
 
 ghost use Rattle.wz_machine.specs.Contexts.{StepWithin, FramesWithin, LocalsWithin};
 ghost use Rattle.wz_machine.specs.Flat.{PlainStep, LocalStep, OpeningStep};
@@ -8,8 +8,8 @@ ghost use Rattle.wz_machine.specs.Laws.{LeafReads, StepReads, MemoryGrowthReads,
 ghost use Rattle.wz_machine.specs.Laws.{ChangeKeeps, ChangeReachesState, StepAddsNone, StepNames};
 ghost use Rattle.wz_machine.specs.Laws.{LeafSame, StepSame, ObservesSame, TypedNames, ContextLasts};
 
-/// What an instruction or a step does rests on nothing of the state but types, functions and what it
-/// names; growth looks at the present size and the maximum alone.
+/// What an instruction or a step does rests on nothing of the state but types, functions and what
+/// it names; growth looks at the present size and the maximum alone.
 #[tactic(auto, using(crate::proofs::ReadLemmas::leaf_reads, crate::proofs::ReadLemmas::step_reads))]
 pub fn steps_read()
     ensures leaf { LeafReads }
@@ -19,22 +19,19 @@ pub fn steps_read()
 {}
 
 /// What no change of the state touches; and a change of a store is the change of its state.
-#[tactic(auto, using(crate::proofs::ChangeLemmas::change_keeps, crate::proofs::ChangeLemmas::change_reaches_state))]
 pub fn steps_write()
     ensures kept { ChangeKeeps }
     ensures store { ChangeReachesState }
 {}
 
-/// A step comes to no instructions but those of its term and of the functions, so it names no more
-/// segments.
-#[tactic(auto, using(crate::proofs::LeafLemmas::step_adds_none, crate::proofs::LeafLemmas::step_names))]
+/// A step comes to no instructions but those of its term and of the functions, so it names no
+/// more segments.
 pub fn steps_add_no_code()
     ensures code { StepAddsNone }
     ensures segments { StepNames }
 {}
 
 /// More segments than are named change no step, and nothing that is seen of an instance.
-#[tactic(auto, using(crate::proofs::ReadLemmas::leaf_same, crate::proofs::ReadLemmas::step_same, crate::proofs::MoveLemmas::observes_same))]
 pub fn more_segments_are_not_seen()
     ensures leaf { LeafSame }
     ensures step { StepSame }
@@ -48,31 +45,27 @@ pub fn steps_within()
 {}
 
 /// How many frames and locals a term has, by what stands around its innermost code.
-#[tactic(auto, using(crate::proofs::ContextLemmas::frames_within, crate::proofs::ContextLemmas::locals_within))]
 pub fn frames_within()
     ensures frames { FramesWithin }
     ensures locals { LocalsWithin }
 {}
 
 /// A step of the innermost block of flat stacks is a step of the term that they stand for.
-#[tactic(auto, using(crate::proofs::FlatLemmas::plain_step, crate::proofs::FlatLemmas::local_step, crate::proofs::FlatLemmas::opening_step))]
 pub fn flat_steps()
     ensures plain { PlainStep }
     ensures local { LocalStep }
     ensures opening { OpeningStep }
 {}
 
-/// What is left of flat stacks where a block or a call was left, or a branch leads to a loop, is the term
-/// that the step comes to.
-#[tactic(auto, using(crate::proofs::FlatLemmas::leaving_term, crate::proofs::FlatLemmas::looping_term))]
+/// What is left of flat stacks where a block or a call was left, or a branch leads to a loop, is
+/// the term that the step comes to.
 pub fn flat_terms()
     ensures leaving { LeavingTerm }
     ensures looping { LoopingTerm }
 {}
 
-/// The functions of a typed state name no segment that isn't there, and the context in which it is typed
-/// is the same after each change.
-#[tactic(auto, using(crate::proofs::TypedLemmas::typed_names, crate::proofs::TypedLemmas::context_lasts))]
+/// The functions of a typed state name no segment that isn't there, and the context in which it
+/// is typed is the same after each change.
 pub fn typed_states()
     ensures segments { TypedNames }
     ensures context { ContextLasts }

@@ -1,5 +1,5 @@
-//! What a machine asks of its surroundings, and how these answer (Core Specification 2.0, sections
-//! 4.3.3, 4.4.6, 4.4.7 and 4.4.10).
+//! What a machine asks of its surroundings, and how these answer (Core Specification 2.0,
+//! sections 4.3.3, 4.4.6, 4.4.7 and 4.4.10).
 
 use wz_types::Value;
 
