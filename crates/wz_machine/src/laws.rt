@@ -1,0 +1,72 @@
+//! Laws of steps and of sessions, for the proofs of other crates. A law is the contract of a
+//! function that does nothing.
+
+ghost use Rattle.wz_machine.specs.Contexts.{StepWithin, FramesWithin, LocalsWithin};
+ghost use Rattle.wz_machine.specs.Flat.{PlainStep, LocalStep, OpeningStep};
+ghost use Rattle.wz_machine.specs.Flat.{LeavingTerm, LoopingTerm};
+ghost use Rattle.wz_machine.specs.Laws.{LeafReads, StepReads, MemoryGrowthReads, TableGrowthReads};
+ghost use Rattle.wz_machine.specs.Laws.{ChangeKeeps, ChangeReachesState, StepAddsNone, StepNames};
+ghost use Rattle.wz_machine.specs.Laws.{LeafSame, StepSame, ObservesSame, TypedNames, ContextLasts};
+
+/// What an instruction or a step does rests on nothing of the state but types, functions and what
+/// it names; growth looks at the present size and the maximum alone.
+#[tactic(auto, using(crate::proofs::ReadLemmas::leaf_reads, crate::proofs::ReadLemmas::step_reads))]
+pub fn steps_read()
+    ensures leaf { LeafReads }
+    ensures step { StepReads }
+    ensures memory { MemoryGrowthReads }
+    ensures table { TableGrowthReads }
+{}
+
+/// What no change of the state touches; and a change of a store is the change of its state.
+pub fn steps_write()
+    ensures kept { ChangeKeeps }
+    ensures store { ChangeReachesState }
+{}
+
+/// A step comes to no instructions but those of its term and of the functions, so it names no
+/// more segments.
+pub fn steps_add_no_code()
+    ensures code { StepAddsNone }
+    ensures segments { StepNames }
+{}
+
+/// More segments than are named change no step, and nothing that is seen of an instance.
+pub fn more_segments_are_not_seen()
+    ensures leaf { LeafSame }
+    ensures step { StepSame }
+    ensures session { ObservesSame }
+{}
+
+/// A step of what stands in a context of labels and frames is a step of the whole term.
+#[tactic(auto, using(crate::proofs::ContextLemmas::step_within))]
+pub fn steps_within()
+    ensures { StepWithin }
+{}
+
+/// How many frames and locals a term has, by what stands around its innermost code.
+pub fn frames_within()
+    ensures frames { FramesWithin }
+    ensures locals { LocalsWithin }
+{}
+
+/// A step of the innermost block of flat stacks is a step of the term that they stand for.
+pub fn flat_steps()
+    ensures plain { PlainStep }
+    ensures local { LocalStep }
+    ensures opening { OpeningStep }
+{}
+
+/// What is left of flat stacks where a block or a call was left, or a branch leads to a loop, is
+/// the term that the step comes to.
+pub fn flat_terms()
+    ensures leaving { LeavingTerm }
+    ensures looping { LoopingTerm }
+{}
+
+/// The functions of a typed state name no segment that isn't there, and the context in which it
+/// is typed is the same after each change.
+pub fn typed_states()
+    ensures segments { TypedNames }
+    ensures context { ContextLasts }
+{}

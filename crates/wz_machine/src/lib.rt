@@ -1,0 +1,17 @@
+//! The machine: one step of a term, sessions of moves, and the laws that proofs of other crates
+//! rest on.
+//!
+//! `specs/` is the definition, after chapter 4 of the Core Specification. `State`, `Terms` and
+//! `Outcomes` say on what a step works and what it comes to. Each group of instructions has a
+//! module of its own (`NumericSteps`, `ReferenceSteps`, `ParametricSteps`, `VariableSteps`,
+//! `TableSteps`, `MemorySteps`, `ControlSteps`, `CallSteps`), and `InstrSteps` one line for each
+//! instruction. `BlockSteps` has blocks, labels and frames, `Step` the step, `Next` the
+//! instruction that it reduces, `Entered` the term of a call. `Moves`, `Replies`, `Accesses` and
+//! `Sessions` are what is done with an instance from outside, and what is seen of it. `Leaves`,
+//! `Within`, `Contexts` and `Flat` are what the laws speak of.
+#![tactic(auto)]
+
+pub mod laws;
+mod questions;
+
+pub use questions::{FloatReply, Growth, HostTarget};
