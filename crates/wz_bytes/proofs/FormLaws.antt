@@ -83,7 +83,8 @@ both_exact {X = X} {Y = Y} S T p q first second = record {
       rw (parts, first.again h.0 z.0 (h.1 ++ rest) h.3, second.again h.1 z.1 rest h.4) refl;
 }
 
-tagged_found : {X : Type 0} (tag : ℕ) (S : Form X) (p : Reading X) → IsExact S p → (bytes : List ℕ) (x : X) (rest : List ℕ) → tagged_at tag p bytes ≡ Some (x, rest) → Front (Tagged tag S) bytes x rest
+tagged_found : {X : Type 0} (tag : ℕ) (S : Form X) (p : Reading X) → IsExact S p → (bytes : List ℕ) (x : X) (rest : List ℕ) → tagged_at tag p bytes ≡ Some (x, rest)
+    → Front (Tagged tag S) bytes x rest
 tagged_found tag S p exact [] x rest e = absurd cc
 tagged_found tag S p exact (b ∷ bytes) x rest e =
     let g = guarded (nat_eq b tag) _ _ e in

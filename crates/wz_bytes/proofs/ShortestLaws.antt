@@ -32,10 +32,19 @@ unsigned_spelled (suc more) bits n fits enough = elim (cases_lt n 128) [
   | inl small ↦ rw (unsigned_groups-last (suc more) n small) (inl (refl, small, fits, refl))
   | inr big ↦
       let many = over_7 bits n big fits in
-      let left : n / 128 < 2 ^ (7 * (more + 1)) = subst (λ (k : ℕ). n / 128 < 2 ^ k) (let s : 7 * (suc more + 1) - 7 ≡ 7 * (more + 1) = omega arith in s) (divided (7 * (suc more + 1)) n (omega arith) enough) in
+      let left : n / 128 < 2 ^ (7 * (more + 1)) = subst (λ (k : ℕ). n / 128 < 2 ^ k) (let s : 7 * (suc more + 1) - 7 ≡ 7 * (more + 1) = omega arith in s)
+      (divided (7 * (suc more + 1)) n (omega arith) enough) in
       let low : n % 128 < 128 = mod_below n 128 (lit< tt) in
       rw (unsigned_groups-more more n big)
-      (inr (omega arith, omega (arith, low), many, n / 128, omega (arith, parts_128 n), unsigned_spelled more (bits - 7) (n / 128) (divided bits n (omega (arith, many)) fits) left))
+      (inr (
+        omega arith,
+        omega (arith, low),
+        many,
+        n / 128,
+        omega (arith, parts_128 n),
+        unsigned_spelled more (bits - 7) (n / 128)
+            (divided bits n (omega (arith, many)) fits) left,
+      ))
 ]
 
 unsigned_least : (more bits n : ℕ) (other : List ℕ) → IsUnsigned bits other n → length (unsigned_groups more n) ≤ length other
@@ -95,7 +104,11 @@ signed_spelled (suc more) bits z fits enough = elim (cases_Bool (is_one_group z)
   | inl one ↦ rw (signed_groups-last (suc more) z one) (one_spelled bits z one fits)
   | inr several ↦
       let big = large z several in
-      let many : 7 < bits = elim (cases_lt 7 bits) [ inl above ↦ above | inr few ↦ absurd (let p : 2 ^ (bits - 1) ≤ 2 ^ 6 = pow_mono (let k : bits - 1 ≤ 6 = omega arith in k) in omega (arith, p)) ] in
+      let many : 7 < bits = elim (cases_lt 7 bits) [
+        | inl above ↦ above
+        | inr few ↦ absurd
+            (let p : 2 ^ (bits - 1) ≤ 2 ^ 6 = pow_mono (let k : bits - 1 ≤ 6 = omega arith in k) in omega (arith, p))
+      ] in
       let high : size_of (high_groups z) < 2 ^ (bits - 7 - 1) =
       subst (λ (k : ℕ). size_of (high_groups z) < 2 ^ k) (let s : bits - 1 - 7 ≡ bits - 7 - 1 = omega arith in s)
       (rw (size_of_high_groups z) (divided (bits - 1) (size_of z) (omega arith) fits)) in

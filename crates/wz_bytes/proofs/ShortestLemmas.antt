@@ -14,7 +14,8 @@ push_group groups tail count b room = ap (λ (t : List ℕ). t ++ tail) (take_mo
 -- what is left of a number has seven bits fewer
 pub seven_left : (bits count n : ℕ) → 7 * (count + 1) ≤ bits → n < 2 ^ (bits - 7 * count) → n / 128 < 2 ^ (bits - 7 * (count + 1))
 seven_left bits count n few below =
-    let e : 2 ^ (bits - 7 * count) ≡ 2 ^ (bits - 7 * (count + 1)) * 128 = ap (λ (k : ℕ). 2 ^ k) (let s : bits - 7 * count ≡ bits - 7 * (count + 1) + 7 = omega arith in s) ∙ pow-add 2 (bits - 7 * (count + 1)) 7 in
+    let e : 2 ^ (bits - 7 * count) ≡ 2 ^ (bits - 7 * (count + 1)) * 128 = ap (λ (k : ℕ). 2 ^ k) (let s : bits - 7 * count ≡ bits - 7 * (count + 1) + 7 = omega arith in s)
+    ∙ pow-add 2 (bits - 7 * (count + 1)) 7 in
     div_below n 128 (2 ^ (bits - 7 * (count + 1))) (lit< tt) (rw (sym e) below)
 
 -- nine groups hold all of a number but its highest bit

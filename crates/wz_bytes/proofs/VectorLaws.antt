@@ -57,7 +57,8 @@ all_bad view item bytes (inr more) = rw (vector_gives view item more.xs bytes mo
 
 pub whole_vector : {Y X : Type 0} (S : Form X) (item : Reading X) → IsExact S item → (view : Y → X) (ys : List Y) (bytes : List ℕ) → VectorRead (ReadsBy view item) bytes ys []
     → IsVector S bytes (map view ys)
-whole_vector S item exact view ys bytes h = all_found (λ t xs. IsVector S t xs) (λ b. vector_at item b) (vector_exact S item exact) bytes (map view ys) (all_gives view item ys bytes h)
+whole_vector S item exact view ys bytes h = all_found (λ t xs. IsVector S t xs) (λ b. vector_at item b) (vector_exact S item exact) bytes (map view ys)
+    (all_gives view item ys bytes h)
 
 pub no_whole_vector : {Y X : Type 0} (S : Form X) (item : Reading X) → IsExact S item → (view : Y → X) (bytes : List ℕ) → NotAll (ReadsBy view item) (λ b. item b ≡ None) bytes
     → (xs : List X) → IsVector S bytes xs → ⊥

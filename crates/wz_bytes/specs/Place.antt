@@ -18,5 +18,5 @@ Moves view None old new read = (read ≡ None) × (new ≡ old)
 Moves view (Some y) old new read = (read ≡ Some (view y, new.left)) × (new.total ≡ old.total)
 
 -- the same of a reader that may leave the cursor anywhere where it gives nothing, as one of several parts does
-abbrev pub Takes : {X Y : Type 0} → (Y → X) → Option Y → Place → Option (X × List ℕ) → Type 0
-Takes view result new read = option_map (λ y. (view y, new.left)) result ≡ read
+abbrev pub GivesFront : {X Y : Type 0} → (Y → X) → Option Y → Place → Option (X × List ℕ) → Type 0
+GivesFront view result new read = option_map (λ y. (view y, new.left)) result ≡ read

@@ -16,7 +16,8 @@ use Rattle.wz_decode_code.proofs.ReadsLemmas.{reads_step}
 -- ---- what is spelled so is read
 
 -- one token: what is read from here is what is read behind it
-symbol_on : (text rest : List ℕ) (t : Symbol) (here now : Code) (around outside : List Around) → IsSymbol text t → after_symbol t here around ≡ On now outside → reads (text ++ rest) here around ≡ reads rest now outside
+symbol_on : (text rest : List ℕ) (t : Symbol) (here now : Code) (around outside : List Around) → IsSymbol text t → after_symbol t here around ≡ On now outside
+    → reads (text ++ rest) here around ≡ reads rest now outside
 symbol_on text rest t here now around outside h e =
     reads_step (text ++ rest) t rest here around (symbol_exact.again text t rest h)
     ∙ ap (λ (n : Next). go_on (λ h a. reads rest h a) rest n) e
@@ -25,7 +26,8 @@ symbol_on text rest t here now around outside h e =
 held_again : (part : BlockPart) (shape : Shape) (inner more : Code) (text behind rest : List ℕ) (here : Code) (outside : List Around) → IsCode text inner → IsCode behind more
     → ((t rest : List ℕ) (here : Code) (outside : List Around) → IsCode t inner → reads (t ++ rest) here outside ≡ reads rest (joined here inner) outside)
     → ((t rest : List ℕ) (here : Code) (outside : List Around) → IsCode t more → reads (t ++ rest) here outside ≡ reads rest (joined here more) outside)
-    → reads (text ++ (0x0B ∷ (behind ++ rest))) End (record { part = part; shape = shape; before = here } ∷ outside) ≡ reads rest (joined here (joined (node part shape inner) more)) outside
+    → reads (text ++ (0x0B ∷ (behind ++ rest))) End (record { part = part; shape = shape; before = here } ∷ outside) ≡ reads rest
+    (joined here (joined (node part shape inner) more)) outside
 held_again part shape inner more text behind rest here outside is_inner is_more inner_again more_again =
     inner_again text (0x0B ∷ (behind ++ rest)) End (record { part = part; shape = shape; before = here } ∷ outside) is_inner
     ∙ symbol_on (0x0B ∷ []) (behind ++ rest) Ends inner (joined here (node part shape inner)) (record { part = part; shape = shape; before = here } ∷ outside) outside refl refl
@@ -46,7 +48,8 @@ second_again shape one two more text behind rest here outside (inl none) is_more
     ∙ ap (λ (c : Code). reads rest c outside) (joined_assoc here (InIf shape one End End) more))
 second_again shape one two more text behind rest here outside (inr some) is_more two_again more_again =
     rw some.1
-    (symbol_on (0x05 ∷ []) (some.0 ++ (0x0B ∷ (behind ++ rest))) Else one End (record { part = OfFirst; shape = shape; before = here } ∷ outside) (record { part = OfSecond one; shape = shape; before = here } ∷ outside) refl refl
+    (symbol_on (0x05 ∷ []) (some.0 ++ (0x0B ∷ (behind ++ rest))) Else one End (record { part = OfFirst; shape = shape; before = here } ∷ outside)
+    (record { part = OfSecond one; shape = shape; before = here } ∷ outside) refl refl
     ∙ held_again (OfSecond one) shape two more some.0 behind rest here outside some.2 is_more two_again more_again)
 
 code_again : (code : Code) (text rest : List ℕ) (here : Code) (outside : List Around) → IsCode text code → reads (text ++ rest) here outside ≡ reads rest (joined here code) outside
@@ -64,7 +67,8 @@ code_again (InBlock s inner more) text rest here outside h =
     let i = h.2.1 in
     let b = h.2.2 in
     let after_shape = i ++ (0x0B ∷ (b ++ rest)) in
-    let parts : text ++ rest ≡ (0x02 ∷ k) ++ after_shape = ap (λ (t : List ℕ). t ++ rest) h.1 ∙ ap (λ (t : List ℕ). 0x02 ∷ (t ++ rest)) h.2.3 ∙ ap (λ (t : List ℕ). 0x02 ∷ t) (held_parts k i b rest) in
+    let parts : text ++ rest ≡ (0x02 ∷ k) ++ after_shape = ap (λ (t : List ℕ). t ++ rest) h.1 ∙ ap (λ (t : List ℕ). 0x02 ∷ (t ++ rest)) h.2.3
+    ∙ ap (λ (t : List ℕ). 0x02 ∷ t) (held_parts k i b rest) in
     ap (λ (t : List ℕ). reads t here outside) parts
     ∙ symbol_on (0x02 ∷ k) after_shape (BeginsBlock s) here End outside (record { part = OfBlock; shape = s; before = here } ∷ outside) (k, refl, h.2.4) refl
     ∙ held_again OfBlock s inner more i b rest here outside h.2.5 h.2.6 (code_again inner) (code_again more)
@@ -73,7 +77,8 @@ code_again (InLoop s inner more) text rest here outside h =
     let i = h.2.1 in
     let b = h.2.2 in
     let after_shape = i ++ (0x0B ∷ (b ++ rest)) in
-    let parts : text ++ rest ≡ (0x03 ∷ k) ++ after_shape = ap (λ (t : List ℕ). t ++ rest) h.1 ∙ ap (λ (t : List ℕ). 0x03 ∷ (t ++ rest)) h.2.3 ∙ ap (λ (t : List ℕ). 0x03 ∷ t) (held_parts k i b rest) in
+    let parts : text ++ rest ≡ (0x03 ∷ k) ++ after_shape = ap (λ (t : List ℕ). t ++ rest) h.1 ∙ ap (λ (t : List ℕ). 0x03 ∷ (t ++ rest)) h.2.3
+    ∙ ap (λ (t : List ℕ). 0x03 ∷ t) (held_parts k i b rest) in
     ap (λ (t : List ℕ). reads t here outside) parts
     ∙ symbol_on (0x03 ∷ k) after_shape (BeginsLoop s) here End outside (record { part = OfLoop; shape = s; before = here } ∷ outside) (k, refl, h.2.4) refl
     ∙ held_again OfLoop s inner more i b rest here outside h.2.5 h.2.6 (code_again inner) (code_again more)
@@ -85,7 +90,8 @@ code_again (InIf s one two more) text rest here outside h =
     let end = 0x0B ∷ (b ++ rest) in
     let arms : h.2.1 ++ end ≡ first ++ (second ++ end) = ap (λ (t : List ℕ). t ++ end) h.2.5.2 ∙ append_assoc first second end in
     let parts : text ++ rest ≡ (0x04 ∷ k) ++ (first ++ (second ++ end)) =
-    ap (λ (t : List ℕ). t ++ rest) h.1 ∙ ap (λ (t : List ℕ). 0x04 ∷ (t ++ rest)) h.2.3 ∙ ap (λ (t : List ℕ). 0x04 ∷ t) (held_parts k h.2.1 b rest) ∙ ap (λ (t : List ℕ). 0x04 ∷ (k ++ t)) arms in
+    ap (λ (t : List ℕ). t ++ rest) h.1 ∙ ap (λ (t : List ℕ). 0x04 ∷ (t ++ rest)) h.2.3 ∙ ap (λ (t : List ℕ). 0x04 ∷ t) (held_parts k h.2.1 b rest)
+    ∙ ap (λ (t : List ℕ). 0x04 ∷ (k ++ t)) arms in
     ap (λ (t : List ℕ). reads t here outside) parts
     ∙ symbol_on (0x04 ∷ k) (first ++ (second ++ end)) (BeginsIf s) here End outside (record { part = OfFirst; shape = s; before = here } ∷ outside) (k, refl, h.2.4) refl
     ∙ code_again one first (second ++ end) End (record { part = OfFirst; shape = s; before = here } ∷ outside) h.2.5.3
@@ -133,14 +139,16 @@ Spelled bytes [] here left = (text : List ℕ) × (bytes ≡ text ++ left) × Is
 Spelled bytes (o ∷ outside) here left = (head text : List ℕ) × IsHead o.part o.shape head × IsCode text here × Spelled bytes outside o.before (head ++ (text ++ left))
 
 -- more code in front of what is left
-extend : (bytes : List ℕ) (outside : List Around) (here code : Code) (text left : List ℕ) → Spelled bytes outside here (text ++ left) → IsCode text code → Spelled bytes outside (joined here code) left
+extend : (bytes : List ℕ) (outside : List Around) (here code : Code) (text left : List ℕ) → Spelled bytes outside here (text ++ left) → IsCode text code
+    → Spelled bytes outside (joined here code) left
 extend bytes [] here code text left h k = (h.0 ++ text, h.1 ∙ sym (append_assoc h.0 text left), code_append here code h.0 text h.2 k)
 extend bytes (o ∷ outside) here code text left h k =
     let parts : h.0 ++ (h.1 ++ (text ++ left)) ≡ h.0 ++ ((h.1 ++ text) ++ left) = ap (λ (t : List ℕ). h.0 ++ t) (sym (append_assoc h.1 text left)) in
     (h.0, h.1 ++ text, h.2, code_append here code h.1 text h.3 k, subst (λ (t : List ℕ). Spelled bytes outside o.before t) parts h.4)
 
 -- a block that ends is spelled
-node_spelled : (part : BlockPart) (shape : Shape) (inner : Code) (head text : List ℕ) → IsHead part shape head → IsCode text inner → IsCode (head ++ (text ++ 0x0B ∷ [])) (node part shape inner)
+node_spelled : (part : BlockPart) (shape : Shape) (inner : Code) (head text : List ℕ) → IsHead part shape head → IsCode text inner
+    → IsCode (head ++ (text ++ 0x0B ∷ [])) (node part shape inner)
 node_spelled OfBlock shape inner head text h k = (h.0 ++ (text ++ 0x0B ∷ []), ap (λ (t : List ℕ). t ++ (text ++ 0x0B ∷ [])) h.1, (h.0, text, [], refl, h.2, k, refl))
 node_spelled OfLoop shape inner head text h k = (h.0 ++ (text ++ 0x0B ∷ []), ap (λ (t : List ℕ). t ++ (text ++ 0x0B ∷ [])) h.1, (h.0, text, [], refl, h.2, k, refl))
 node_spelled OfFirst shape inner head text h k =
@@ -156,17 +164,21 @@ node_spelled (OfSecond one) shape inner head text h k =
       (h.0, arms, [], refl, h.3, (h.1, 0x05 ∷ text, refl, h.4, inr (text, refl, k)), refl),
     )
 
-begun : (bytes : List ℕ) (outside : List Around) (here : Code) (part : BlockPart) (shape : Shape) (head left rest : List ℕ) → left ≡ head ++ rest → IsHead part shape head → Spelled bytes outside here left
+begun : (bytes : List ℕ) (outside : List Around) (here : Code) (part : BlockPart) (shape : Shape) (head left rest : List ℕ) → left ≡ head ++ rest → IsHead part shape head
+    → Spelled bytes outside here left
     → Spelled bytes (record { part = part; shape = shape; before = here } ∷ outside) End rest
 begun bytes outside here part shape head left rest parts is h = (head, [], is, refl, subst (λ (t : List ℕ). Spelled bytes outside here t) parts h)
 
 -- an induction over the tokens that are left
 abbrev Sound : ℕ → Type 0
-Sound fuel = (bytes left : List ℕ) (here : Code) (outside : List Around) (c : Code) (r : List ℕ) → rest_at fuel left here outside ≡ Some (c, r) → Spelled bytes outside here left → Front IsExpression bytes c r
+Sound fuel = (bytes left : List ℕ) (here : Code) (outside : List Around) (c : Code) (r : List ℕ) → rest_at fuel left here outside ≡ Some (c, r) → Spelled bytes outside here left
+    → Front IsExpression bytes c r
 
-on_else : (fuel : ℕ) → Sound fuel → (bytes left rest : List ℕ) (here : Code) (part : BlockPart) (shape : Shape) (before : Code) (outside : List Around) (c : Code) (r : List ℕ) → left ≡ 0x05 ∷ rest
+on_else : (fuel : ℕ) → Sound fuel → (bytes left rest : List ℕ) (here : Code) (part : BlockPart) (shape : Shape) (before : Code) (outside : List Around) (c : Code) (r : List ℕ)
+    → left ≡ 0x05 ∷ rest
     → Spelled bytes (record { part = part; shape = shape; before = before } ∷ outside) here left
-    → go_on (λ h a. rest_at fuel rest h a) rest (after_symbol Else here (record { part = part; shape = shape; before = before } ∷ outside)) ≡ Some (c, r) → Front IsExpression bytes c r
+    → go_on (λ h a. rest_at fuel rest h a) rest (after_symbol Else here (record { part = part; shape = shape; before = before } ∷ outside)) ≡ Some (c, r)
+    → Front IsExpression bytes c r
 on_else fuel sound bytes left rest here OfBlock shape before outside c r parts h e = absurd cc
 on_else fuel sound bytes left rest here OfLoop shape before outside c r parts h e = absurd cc
 on_else fuel sound bytes left rest here (OfSecond one) shape before outside c r parts h e = absurd cc
@@ -180,7 +192,8 @@ on_else fuel sound bytes left rest here OfFirst shape before outside c r parts h
     sound bytes rest End (record { part = OfSecond here; shape = shape; before = before } ∷ outside) c r e
     (head ++ (text ++ 0x05 ∷ []), [], (kind, text, is, h.2.2, h.3), refl, subst (λ (t : List ℕ). Spelled bytes outside before t) whole h.4)
 
-on_symbol : (fuel : ℕ) → Sound fuel → (bytes left text rest : List ℕ) (t : Symbol) (here : Code) (outside : List Around) (c : Code) (r : List ℕ) → left ≡ text ++ rest → IsSymbol text t → Spelled bytes outside here left
+on_symbol : (fuel : ℕ) → Sound fuel → (bytes left text rest : List ℕ) (t : Symbol) (here : Code) (outside : List Around) (c : Code) (r : List ℕ) → left ≡ text ++ rest
+    → IsSymbol text t → Spelled bytes outside here left
     → go_on (λ h a. rest_at fuel rest h a) rest (after_symbol t here outside) ≡ Some (c, r) → Front IsExpression bytes c r
 on_symbol fuel sound bytes left text rest (Single i) here outside c r parts is h e =
     sound bytes rest (joined here (Then i End)) outside c r e
@@ -203,7 +216,8 @@ on_symbol fuel sound bytes left text rest Ends here (o ∷ outside) c r parts is
     let head : List ℕ = h.0 in
     let inner : List ℕ = h.1 in
     let whole : head ++ (inner ++ left) ≡ (head ++ (inner ++ 0x0B ∷ [])) ++ rest =
-    ap (λ (t : List ℕ). head ++ (inner ++ t)) (parts ∙ ap (λ (t : List ℕ). t ++ rest) is) ∙ ap (λ (t : List ℕ). head ++ t) (sym (append_assoc inner (0x0B ∷ []) rest)) ∙ sym (append_assoc head (inner ++ 0x0B ∷ []) rest) in
+    ap (λ (t : List ℕ). head ++ (inner ++ t)) (parts ∙ ap (λ (t : List ℕ). t ++ rest) is) ∙ ap (λ (t : List ℕ). head ++ t) (sym (append_assoc inner (0x0B ∷ []) rest))
+    ∙ sym (append_assoc head (inner ++ 0x0B ∷ []) rest) in
     sound bytes rest (joined o.before (node o.part o.shape here)) outside c r e
     (extend bytes outside o.before (node o.part o.shape here) (head ++ (inner ++ 0x0B ∷ [])) rest
     (subst (λ (t : List ℕ). Spelled bytes outside o.before t) whole h.4) (node_spelled o.part o.shape here head inner h.2 h.3))

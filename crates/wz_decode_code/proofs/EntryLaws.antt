@@ -38,4 +38,5 @@ pub entry_exact : IsExact (λ t entry. IsEntry t entry) (λ b. entry_at b)
 entry_exact = both_exact (λ t runs. IsLocals t runs) (λ t code. IsExpression t code) (λ b. locals_at b) (λ b. expression_at b) locals_exact expression_exact
 
 pub one_entry : OneEntry
-one_entry bytes a b ha hb = some_is a b (sym (all_again (λ t entry. IsEntry t entry) (λ b. entry_at b) entry_exact bytes a ha) ∙ all_again (λ t entry. IsEntry t entry) (λ b. entry_at b) entry_exact bytes b hb)
+one_entry bytes a b ha hb = some_is a b (sym (all_again (λ t entry. IsEntry t entry) (λ b. entry_at b) entry_exact bytes a ha)
+    ∙ all_again (λ t entry. IsEntry t entry) (λ b. entry_at b) entry_exact bytes b hb)

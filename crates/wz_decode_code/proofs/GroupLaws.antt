@@ -48,7 +48,8 @@ reference_finds b bytes =
     (found_none IsPlain (b ∷ bytes))))
 
 -- a row of those that are their opcode alone
-alone : (b k : ℕ) (this : Instr) (others : Option Instr) (i : Instr) → IsPlain (k ∷ []) this → (others ≡ Some i → IsPlain (b ∷ []) i) → cond (nat_eq b k) (Some this) others ≡ Some i → IsPlain (b ∷ []) i
+alone : (b k : ℕ) (this : Instr) (others : Option Instr) (i : Instr) → IsPlain (k ∷ []) this → (others ≡ Some i → IsPlain (b ∷ []) i)
+    → cond (nat_eq b k) (Some this) others ≡ Some i → IsPlain (b ∷ []) i
 alone b k this others i spelled more e = elim (chosen (nat_eq b k) (Some this) others _ e) [
   | inl y ↦ subst (λ (n : ℕ). IsPlain (n ∷ []) i) (sym (eqb-true b k y.0)) (subst (λ (x : Instr). IsPlain (k ∷ []) x) (some_is _ _ y.1) spelled)
   | inr n ↦ more n.1

@@ -67,7 +67,8 @@ access_again : (op : MemOp) (text rest : List ℕ) (align offset memory : ℕ) �
 unfolding instr_at memory_instr_at access_instr_at
 access_again op text rest align offset memory h zero =
     let r = access_range op in
-    rw (r.no_control, r.no_parametric, r.no_variable, r.no_table, r.within, r.no_size, r.no_grow, access_named op, zero) (two_again (λ x y. instr.Access op x y 0) text rest align offset h)
+    rw (r.no_control, r.no_parametric, r.no_variable, r.no_table, r.within, r.no_size, r.no_grow, access_named op, zero)
+    (two_again (λ x y. instr.Access op x y 0) text rest align offset h)
 
 -- numeric instructions, by where their opcodes are
 pub record InNumeric (byte : ℕ) : Type 0 where
@@ -142,23 +143,31 @@ plain_again text (instr.GlobalGet n) rest h = rw h.1 (number_again (λ n. instr.
 plain_again text (instr.GlobalSet n) rest h = rw h.1 (number_again (λ n. instr.GlobalSet n) h.0 rest n h.2)
 plain_again text (instr.TableGet n) rest h = rw h.1 (number_again (λ n. instr.TableGet n) h.0 rest n h.2)
 plain_again text (instr.TableSet n) rest h = rw h.1 (number_again (λ n. instr.TableSet n) h.0 rest n h.2)
-plain_again text (instr.TableInit x y) rest h = ap (λ (t : List ℕ). instr_at (t ++ rest)) h.2 ∙ second_again 12 h.0 h.1 rest h.3 ∙ two_again (λ x y. instr.TableInit x y) h.1 rest x y h.4
+plain_again text (instr.TableInit x y) rest h = ap (λ (t : List ℕ). instr_at (t ++ rest)) h.2 ∙ second_again 12 h.0 h.1 rest h.3
+    ∙ two_again (λ x y. instr.TableInit x y) h.1 rest x y h.4
 plain_again text (instr.ElemDrop x) rest h = ap (λ (t : List ℕ). instr_at (t ++ rest)) h.2 ∙ second_again 13 h.0 h.1 rest h.3 ∙ number_again (λ x. instr.ElemDrop x) h.1 rest x h.4
-plain_again text (instr.TableCopy x y) rest h = ap (λ (t : List ℕ). instr_at (t ++ rest)) h.2 ∙ second_again 14 h.0 h.1 rest h.3 ∙ two_again (λ x y. instr.TableCopy x y) h.1 rest x y h.4
-plain_again text (instr.TableGrow x) rest h = ap (λ (t : List ℕ). instr_at (t ++ rest)) h.2 ∙ second_again 15 h.0 h.1 rest h.3 ∙ number_again (λ x. instr.TableGrow x) h.1 rest x h.4
-plain_again text (instr.TableSize x) rest h = ap (λ (t : List ℕ). instr_at (t ++ rest)) h.2 ∙ second_again 16 h.0 h.1 rest h.3 ∙ number_again (λ x. instr.TableSize x) h.1 rest x h.4
-plain_again text (instr.TableFill x) rest h = ap (λ (t : List ℕ). instr_at (t ++ rest)) h.2 ∙ second_again 17 h.0 h.1 rest h.3 ∙ number_again (λ x. instr.TableFill x) h.1 rest x h.4
+plain_again text (instr.TableCopy x y) rest h = ap (λ (t : List ℕ). instr_at (t ++ rest)) h.2 ∙ second_again 14 h.0 h.1 rest h.3
+    ∙ two_again (λ x y. instr.TableCopy x y) h.1 rest x y h.4
+plain_again text (instr.TableGrow x) rest h = ap (λ (t : List ℕ). instr_at (t ++ rest)) h.2 ∙ second_again 15 h.0 h.1 rest h.3
+    ∙ number_again (λ x. instr.TableGrow x) h.1 rest x h.4
+plain_again text (instr.TableSize x) rest h = ap (λ (t : List ℕ). instr_at (t ++ rest)) h.2 ∙ second_again 16 h.0 h.1 rest h.3
+    ∙ number_again (λ x. instr.TableSize x) h.1 rest x h.4
+plain_again text (instr.TableFill x) rest h = ap (λ (t : List ℕ). instr_at (t ++ rest)) h.2 ∙ second_again 17 h.0 h.1 rest h.3
+    ∙ number_again (λ x. instr.TableFill x) h.1 rest x h.4
 plain_again text (instr.Access op align offset memory) rest h = rw h.1 (access_again op h.0 rest align offset memory h.2.0 h.2.1)
 plain_again text (instr.MemorySize m) rest h = rw h.1 (zero_byte_again (λ m. instr.MemorySize m) h.0 rest m h.2)
 plain_again text (instr.MemoryGrow m) rest h = rw h.1 (zero_byte_again (λ m. instr.MemoryGrow m) h.0 rest m h.2)
 plain_again text (instr.MemoryInit x m) rest h =
     ap (λ (t : List ℕ). instr_at (t ++ rest)) h.2 ∙ second_again 8 h.0 h.1 rest h.3
-    ∙ made_again (λ t xy. Both (λ t n. IsU32 t n) (λ t m. IsZeroByte t m) t xy) (λ b. both_at (λ b. u32_at b) (λ b. zero_byte_at b) b) number_and_zero_exact (λ xy. instr.MemoryInit xy.0 xy.1) h.1 rest (x, m) h.4
+    ∙ made_again (λ t xy. Both (λ t n. IsU32 t n) (λ t m. IsZeroByte t m) t xy) (λ b. both_at (λ b. u32_at b) (λ b. zero_byte_at b) b) number_and_zero_exact
+    (λ xy. instr.MemoryInit xy.0 xy.1) h.1 rest (x, m) h.4
 plain_again text (instr.DataDrop x) rest h = ap (λ (t : List ℕ). instr_at (t ++ rest)) h.2 ∙ second_again 9 h.0 h.1 rest h.3 ∙ number_again (λ x. instr.DataDrop x) h.1 rest x h.4
 plain_again text (instr.MemoryCopy x y) rest h =
     ap (λ (t : List ℕ). instr_at (t ++ rest)) h.2 ∙ second_again 10 h.0 h.1 rest h.3
-    ∙ made_again (λ t xy. Both (λ t m. IsZeroByte t m) (λ t m. IsZeroByte t m) t xy) (λ b. both_at (λ b. zero_byte_at b) (λ b. zero_byte_at b) b) two_zeros_exact (λ xy. instr.MemoryCopy xy.0 xy.1) h.1 rest (x, y) h.4
-plain_again text (instr.MemoryFill m) rest h = ap (λ (t : List ℕ). instr_at (t ++ rest)) h.2 ∙ second_again 11 h.0 h.1 rest h.3 ∙ zero_byte_again (λ m. instr.MemoryFill m) h.1 rest m h.4
+    ∙ made_again (λ t xy. Both (λ t m. IsZeroByte t m) (λ t m. IsZeroByte t m) t xy) (λ b. both_at (λ b. zero_byte_at b) (λ b. zero_byte_at b) b) two_zeros_exact
+    (λ xy. instr.MemoryCopy xy.0 xy.1) h.1 rest (x, y) h.4
+plain_again text (instr.MemoryFill m) rest h = ap (λ (t : List ℕ). instr_at (t ++ rest)) h.2 ∙ second_again 11 h.0 h.1 rest h.3
+    ∙ zero_byte_again (λ m. instr.MemoryFill m) h.1 rest m h.4
 plain_again text (instr.I32Const n) rest h = rw h.1 (made_again (λ t n. IsI32 t n) (λ b. i32_at b) i32_exact (λ n. instr.I32Const n) h.0 rest n h.2)
 plain_again text (instr.I64Const n) rest h = rw h.1 (made_again (λ t n. IsI64 t n) (λ b. i64_at b) i64_exact (λ n. instr.I64Const n) h.0 rest n h.2)
 plain_again text (instr.F32Const n) rest h = rw h.1 (made_again (λ t n. IsF32 t n) (λ b. f32_at b) f32_exact (λ n. instr.F32Const n) h.0 rest n h.2)

@@ -15,7 +15,8 @@ use Rattle.wz_decode_code.proofs.OperandLaws.{u32_exact}
 
 -- ---- an item takes a byte at least
 
-pub shorter : {X : Type 0} (S : List ℕ → X → Type 0) (read : List ℕ → Option (X × List ℕ)) → IsExact S read → ((x : X) → S [] x → ⊥) → (bytes : List ℕ) (x : X) (rest : List ℕ) → read bytes ≡ Some (x, rest) → length rest < length bytes
+pub shorter : {X : Type 0} (S : List ℕ → X → Type 0) (read : List ℕ → Option (X × List ℕ)) → IsExact S read → ((x : X) → S [] x → ⊥) → (bytes : List ℕ) (x : X) (rest : List ℕ)
+    → read bytes ≡ Some (x, rest) → length rest < length bytes
 shorter S read exact some bytes x rest e = let f = exact.found bytes x rest e in by_text f.text f.parts f.spelled where
   by_text : (text : List ℕ) → bytes ≡ text ++ rest → S text x → length rest < length bytes
   by_text [] parts spelled = absurd (some x spelled)
@@ -29,7 +30,8 @@ type_shorter bytes type rest e = shorter (λ t type. IsValType t type) (λ b. ty
 
 -- ---- adding
 
-pub starts : {X : Type 0} (read : List ℕ → Option (X × List ℕ)) (grow : BodyParts → List X → BodyParts) (n : ℕ) (bytes : List ℕ) (body : BodyParts) → body ≡ grow body [] → Adding read grow n 0 bytes body body bytes
+pub starts : {X : Type 0} (read : List ℕ → Option (X × List ℕ)) (grow : BodyParts → List X → BodyParts) (n : ℕ) (bytes : List ℕ) (body : BodyParts) → body ≡ grow body []
+    → Adding read grow n 0 bytes body body bytes
 starts {X = X} read grow n bytes body same = record {
   items = [];
   many = refl;
@@ -53,8 +55,10 @@ one_more : {X : Type 0} (read : List ℕ → Option (X × List ℕ)) (m : ℕ) (
 unfolding items_at
 one_more read m xs x rest after e = rw e (moved (items_at read m after) xs x)
 
-pub adds : {X : Type 0} (read : List ℕ → Option (X × List ℕ)) (grow : BodyParts → List X → BodyParts) (n i : ℕ) (bytes : List ℕ) (old mid new : BodyParts) (x : X) (rest after : List ℕ)
-    → Adding read grow n i bytes old mid rest → i < n → read rest ≡ Some (x, after) → length after < length rest → ((xs : List X) → mid ≡ grow old xs → new ≡ grow old (xs ++ x ∷ [])) → Adding read grow n (i + 1) bytes old new after
+pub adds : {X : Type 0} (read : List ℕ → Option (X × List ℕ)) (grow : BodyParts → List X → BodyParts) (n i : ℕ) (bytes : List ℕ) (old mid new : BodyParts) (x : X)
+    (rest after : List ℕ)
+    → Adding read grow n i bytes old mid rest → i < n → read rest ≡ Some (x, after) → length after < length rest
+    → ((xs : List X) → mid ≡ grow old xs → new ≡ grow old (xs ++ x ∷ [])) → Adding read grow n (i + 1) bytes old new after
 adds read grow n i bytes old mid new x rest after a more e fewer grown =
     let left : n - i ≡ suc (n - (i + 1)) = omega arith in
     let size : length (a.items ++ x ∷ []) ≡ length a.items + 1 = length-append a.items (x ∷ []) in
@@ -84,13 +88,15 @@ all_added {X = X} read grow n i bytes old new rest a all =
       items = a.items;
       many = a.many ∙ all;
       is = a.is;
-      all = a.parts ∙ ap (λ (k : ℕ). behind_items a.items (items_at read k rest)) none ∙ ap (λ (l : List X). let o : Option (List X × List ℕ) = Some (l, rest) in o) (append-nil a.items);
+      all = a.parts ∙ ap (λ (k : ℕ). behind_items a.items (items_at read k rest)) none
+          ∙ ap (λ (l : List X). let o : Option (List X × List ℕ) = Some (l, rest) in o) (append-nil a.items);
       fewer = a.fewer;
     }
 
 -- ---- where they stand
 
-pub stand : {X : Type 0} (old new items : List X) (end count : ℕ) → new ≡ old ++ items → length items ≡ count → (count ≡ 0 → end ≡ 0) → (0 < count → end ≡ length new) → Stand (end - count) count old new
+pub stand : {X : Type 0} (old new items : List X) (end count : ℕ) → new ≡ old ++ items → length items ≡ count → (count ≡ 0 → end ≡ 0) → (0 < count → end ≡ length new)
+    → Stand (end - count) count old new
 stand {X = X} old new [] end count is many none some =
     let e : count ≡ 0 = sym many in
     record {
@@ -123,13 +129,16 @@ pub run_grows : (old mid new : BodyParts) (x : Run) → new ≡ with_locals mid 
 run_grows old mid new x is xs e = is ∙ ap (λ (b : BodyParts). with_locals b x.0 x.1) e ∙ ap (λ (l : List Run). record old { locals = l }) (append_assoc old.locals xs (x ∷ []))
 
 -- there is room for one more where a byte is left
-pub some_room : {X : Type 0} (read : List ℕ → Option (X × List ℕ)) (grow : BodyParts → List X → BodyParts) (n i : ℕ) (bytes : List ℕ) (old mid : BodyParts) (rest : List ℕ) (was now : List X) (size : ℕ)
-    → Adding read grow n i bytes old mid rest → ((xs : List X) → mid ≡ grow old xs → now ≡ was ++ xs) → length was + length bytes < 2 ^ 32 → size < length rest → length now < 2 ^ 32 - 1
+pub some_room : {X : Type 0} (read : List ℕ → Option (X × List ℕ)) (grow : BodyParts → List X → BodyParts) (n i : ℕ) (bytes : List ℕ) (old mid : BodyParts) (rest : List ℕ)
+    (was now : List X) (size : ℕ)
+    → Adding read grow n i bytes old mid rest → ((xs : List X) → mid ≡ grow old xs → now ≡ was ++ xs) → length was + length bytes < 2 ^ 32 → size < length rest
+    → length now < 2 ^ 32 - 1
 some_room read grow n i bytes old mid rest was now size a grown room more =
     omega (arith, ap (λ (l : List _). length l) (grown a.items a.is), length-append was a.items, a.fewer)
 
 -- as many were added as the counter says
-pub as_many : {X : Type 0} (read : List ℕ → Option (X × List ℕ)) (grow : BodyParts → List X → BodyParts) (n i : ℕ) (bytes : List ℕ) (old mid : BodyParts) (rest : List ℕ) (was now : List X)
+pub as_many : {X : Type 0} (read : List ℕ → Option (X × List ℕ)) (grow : BodyParts → List X → BodyParts) (n i : ℕ) (bytes : List ℕ) (old mid : BodyParts) (rest : List ℕ)
+    (was now : List X)
     → Adding read grow n i bytes old mid rest → ((xs : List X) → mid ≡ grow old xs → now ≡ was ++ xs) → i ≤ length now
 as_many read grow n i bytes old mid rest was now a grown =
     omega (arith, ap (λ (l : List _). length l) (grown a.items a.is), length-append was a.items, a.many)

@@ -47,10 +47,18 @@ counts_start body = none body.locals where
   none [] = refl
   none (x ∷ xs) = none xs
 
-pub counts_more : (old mid new : BodyParts) (items : List Run) (x : Run) (total : ℕ) → mid ≡ with_runs old items → new ≡ with_locals mid x.0 x.1 → new ≡ with_runs old (items ++ x ∷ []) → total ≡ count_of (drop (length old.locals) mid.locals)
+pub counts_more : (old mid new : BodyParts) (items : List Run) (x : Run) (total : ℕ) → mid ≡ with_runs old items → new ≡ with_locals mid x.0 x.1
+    → new ≡ with_runs old (items ++ x ∷ []) → total ≡ count_of (drop (length old.locals) mid.locals)
     → total + x.0 ≡ count_of (drop (length old.locals) new.locals)
 counts_more old mid new items x total was is grown so_far =
-    omega (arith, so_far, ap (λ (l : List Run). count_of l) (behind old mid items was), ap (λ (l : List Run). count_of l) (behind old new (items ++ x ∷ []) grown), count_append items (x ∷ []))
+    omega (
+      arith,
+      so_far,
+      ap (λ (l : List Run). count_of l) (behind old mid items was),
+      ap (λ (l : List Run). count_of l)
+          (behind old new (items ++ x ∷ []) grown),
+      count_append items (x ∷ []),
+    )
 
 -- ---- all of them
 
@@ -62,11 +70,13 @@ runs_none : (bytes mid : List ℕ) (count : ℕ) → u32_at bytes ≡ Some (coun
 unfolding vector_at
 runs_none bytes mid count e f = rw (e, f) refl
 
-runs_read : (bytes mid rest : List ℕ) (runs : List Run) (count : ℕ) → u32_at bytes ≡ Some (count, mid) → items_at (λ b. run_at b) count mid ≡ Some (runs, rest) → count_of runs < 2 ^ 32 → locals_at bytes ≡ Some (runs, rest)
+runs_read : (bytes mid rest : List ℕ) (runs : List Run) (count : ℕ) → u32_at bytes ≡ Some (count, mid) → items_at (λ b. run_at b) count mid ≡ Some (runs, rest)
+    → count_of runs < 2 ^ 32 → locals_at bytes ≡ Some (runs, rest)
 unfolding vector_at
 runs_read bytes mid rest runs count e f few = let small = lt-ltb _ _ few in rw (e, f, small) refl
 
-runs_many : (bytes mid rest : List ℕ) (runs : List Run) (count : ℕ) → u32_at bytes ≡ Some (count, mid) → items_at (λ b. run_at b) count mid ≡ Some (runs, rest) → 2 ^ 32 ≤ count_of runs → locals_at bytes ≡ None
+runs_many : (bytes mid rest : List ℕ) (runs : List Run) (count : ℕ) → u32_at bytes ≡ Some (count, mid) → items_at (λ b. run_at b) count mid ≡ Some (runs, rest)
+    → 2 ^ 32 ≤ count_of runs → locals_at bytes ≡ None
 unfolding vector_at
 runs_many bytes mid rest runs count e f many = let large = le-ltb _ _ many in rw (e, f, large) refl
 
@@ -76,12 +86,14 @@ no_run_count bytes e = locals_none bytes (sym e)
 pub no_runs : (bytes mid : List ℕ) (count : ℕ) → Some (count, mid) ≡ u32_at bytes → items_at (λ b. run_at b) count mid ≡ None → locals_at bytes ≡ None
 no_runs bytes mid count e f = runs_none bytes mid count (sym e) f
 
-pub too_many : (bytes mid rest : List ℕ) (count total : ℕ) (old new : BodyParts) → Some (count, mid) ≡ u32_at bytes → Added (λ b. run_at b) (λ body runs. with_runs body runs) count mid old new rest
+pub too_many : (bytes mid rest : List ℕ) (count total : ℕ) (old new : BodyParts) → Some (count, mid) ≡ u32_at bytes
+    → Added (λ b. run_at b) (λ body runs. with_runs body runs) count mid old new rest
     → total ≡ count_of (drop (length old.locals) new.locals) → 2 ^ 32 ≤ total → locals_at bytes ≡ None
 too_many bytes mid rest count total old new e a sum many =
     runs_many bytes mid rest a.items count (sym e) a.all (omega (arith, many, sum, ap (λ (l : List Run). count_of l) (behind old new a.items a.is)))
 
-pub locals_read : (bytes mid rest : List ℕ) (count total : ℕ) (old new : BodyParts) → Some (count, mid) ≡ u32_at bytes → Added (λ b. run_at b) (λ body runs. with_runs body runs) count mid old new rest
+pub locals_read : (bytes mid rest : List ℕ) (count total : ℕ) (old new : BodyParts) → Some (count, mid) ≡ u32_at bytes
+    → Added (λ b. run_at b) (λ body runs. with_runs body runs) count mid old new rest
     → total ≡ count_of (drop (length old.locals) new.locals) → total < 2 ^ 32 → LocalsRead bytes old new rest
 locals_read bytes mid rest count total old new e a sum few = record {
   runs = a.items;
@@ -98,13 +110,17 @@ no_locals bytes e = whole_none (λ t entry. IsEntry t entry) (λ b. entry_at b) 
 pub no_code : (bytes rest : List ℕ) (old new : BodyParts) → LocalsRead bytes old new rest → expression_at rest ≡ None → SpellsNone (λ t entry. IsEntry t entry) bytes
 no_code bytes rest old new l e = let r = l.read in whole_none (λ t entry. IsEntry t entry) (λ b. entry_at b) entry_exact bytes (rw (r, e) refl)
 
-both_read : (bytes mid rest : List ℕ) (runs : List Run) (code : Code) → locals_at bytes ≡ Some (runs, mid) → expression_at mid ≡ Some (code, rest) → entry_at bytes ≡ Some ((runs, code), rest)
+both_read : (bytes mid rest : List ℕ) (runs : List Run) (code : Code) → locals_at bytes ≡ Some (runs, mid) → expression_at mid ≡ Some (code, rest)
+    → entry_at bytes ≡ Some ((runs, code), rest)
 both_read bytes mid rest runs code e f = rw (e, f) refl
 
-pub more_behind : (bytes mid rest : List ℕ) (old new : BodyParts) (code : Code) → LocalsRead bytes old new mid → expression_at mid ≡ Some (code, rest) → (rest ≡ [] → ⊥) → SpellsNone (λ t entry. IsEntry t entry) bytes
-more_behind bytes mid rest old new code l e some = whole_rest (λ t entry. IsEntry t entry) (λ b. entry_at b) entry_exact bytes rest (l.runs, code) (both_read bytes mid rest l.runs code l.read e) some
+pub more_behind : (bytes mid rest : List ℕ) (old new : BodyParts) (code : Code) → LocalsRead bytes old new mid → expression_at mid ≡ Some (code, rest) → (rest ≡ [] → ⊥)
+    → SpellsNone (λ t entry. IsEntry t entry) bytes
+more_behind bytes mid rest old new code l e some = whole_rest (λ t entry. IsEntry t entry) (λ b. entry_at b) entry_exact bytes rest (l.runs, code)
+    (both_read bytes mid rest l.runs code l.read e) some
 
-pub body_spelled : (bytes mid rest : List ℕ) (new body : BodyParts) → LocalsRead bytes no_parts new mid → expression_at mid ≡ Some (tree_of body 0, rest) → body.locals ≡ new.locals → rest ≡ [] → IsEntry bytes (entry_of body)
+pub body_spelled : (bytes mid rest : List ℕ) (new body : BodyParts) → LocalsRead bytes no_parts new mid → expression_at mid ≡ Some (tree_of body 0, rest)
+    → body.locals ≡ new.locals → rest ≡ [] → IsEntry bytes (entry_of body)
 body_spelled bytes mid rest new body l e same none =
     let runs : l.runs ≡ body.locals = sym (same ∙ ap (λ (b : BodyParts). b.locals) l.is) in
     subst (λ (rs : List Run). IsEntry bytes (rs, tree_of body 0)) runs

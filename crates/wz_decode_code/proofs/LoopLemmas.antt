@@ -33,7 +33,8 @@ pub record Stepping (body : BodyParts) (here : ℕ) (opens : List Open) (token :
   pub reading : IsReading body here opens
   pub next : go_on (λ h a. reads rest h a) rest (after_symbol (seen_in body token) (tree_of body here) (arounds body opens)) ≡ whole
 
-pub stepping : (bytes rest : List ℕ) (old new : BodyParts) (token : Token) (here : ℕ) (opens : List Open) (whole : Option (Code × List ℕ)) → SymbolRead bytes old new token rest → IsReading old here opens
+pub stepping : (bytes rest : List ℕ) (old new : BodyParts) (token : Token) (here : ℕ) (opens : List Open) (whole : Option (Code × List ℕ)) → SymbolRead bytes old new token rest
+    → IsReading old here opens
     → reads bytes (tree_of old here) (arounds old opens) ≡ whole → Stepping new here opens token rest whole
 stepping bytes rest old new token here opens whole s reading so_far =
     let stays = grown_stays old new (unnamed_blocks here opens) reading.building s.grown in
@@ -44,11 +45,13 @@ stepping bytes rest old new token here opens whole s reading so_far =
       next = rw (code, around) (sym (reads_step bytes (seen_in new token) rest (tree_of old here) (arounds old opens) s.read) ∙ so_far);
     }
 
-pub goes_on : (body : BodyParts) (here : ℕ) (opens : List Open) (token : Token) (rest : List ℕ) (whole : Option (Code × List ℕ)) (now : Code) (outside : List Around) → Stepping body here opens token rest whole
+pub goes_on : (body : BodyParts) (here : ℕ) (opens : List Open) (token : Token) (rest : List ℕ) (whole : Option (Code × List ℕ)) (now : Code) (outside : List Around)
+    → Stepping body here opens token rest whole
     → after_symbol (seen_in body token) (tree_of body here) (arounds body opens) ≡ On now outside → reads rest now outside ≡ whole
 goes_on body here opens token rest whole now outside s e = ap (λ (n : Next). go_on (λ h a. reads rest h a) rest n) (sym e) ∙ s.next
 
-pub is_done : (body : BodyParts) (here : ℕ) (opens : List Open) (token : Token) (rest : List ℕ) (whole : Option (Code × List ℕ)) (code : Code) → Stepping body here opens token rest whole
+pub is_done : (body : BodyParts) (here : ℕ) (opens : List Open) (token : Token) (rest : List ℕ) (whole : Option (Code × List ℕ)) (code : Code)
+    → Stepping body here opens token rest whole
     → after_symbol (seen_in body token) (tree_of body here) (arounds body opens) ≡ Done code → whole ≡ Some (code, rest)
 is_done body here opens token rest whole code s e = sym s.next ∙ ap (λ (n : Next). go_on (λ h a. reads rest h a) rest n) e
 
@@ -64,7 +67,8 @@ symbol_locals bytes rest old new token s = grown_locals old new s.grown
 
 -- ---- from a cursor
 
-taken_off : {Y : Type 0} (view : Y → List ℕ) (o : Option Y) (old new : Place) (n : ℕ) → IfSome o (λ y. Passes (λ t p. IsPiece n t p) (view y) old new) → (IsNone o → length old.left < n)
+taken_off : {Y : Type 0} (view : Y → List ℕ) (o : Option Y) (old new : Place) (n : ℕ) → IfSome o (λ y. Passes (λ t p. IsPiece n t p) (view y) old new)
+    → (IsNone o → length old.left < n)
     → n ≤ length old.left → (new.left ≡ drop n old.left) × (new.total ≡ old.total)
 taken_off view None old new n found none within = let less : length old.left < n = none refl in absurd (omega (arith, less, within))
 taken_off view (Some y) old new n found none within =
@@ -82,7 +86,8 @@ taken view o old new left rest code is e found none =
     let f = expression_exact.found left code rest e in
     let size : length left ≡ length f.text + length rest = ap (λ (l : List ℕ). length l) f.parts ∙ length-append f.text rest in
     let off = taken_off view o old new (length left - length rest) found none (omega (arith, ap (λ (l : List ℕ). length l) is)) in
-    let behind : drop (length left - length rest) old.left ≡ rest = ap (λ (l : List ℕ). drop (length left - length rest) l) (sym is ∙ f.parts) ∙ drop_at f.text rest (length left - length rest) (omega (arith, size)) in
+    let behind : drop (length left - length rest) old.left ≡ rest = ap (λ (l : List ℕ). drop (length left - length rest) l) (sym is ∙ f.parts)
+    ∙ drop_at f.text rest (length left - length rest) (omega (arith, size)) in
     (ap (λ (l : List ℕ). expression_at l) (sym is) ∙ e ∙ ap (λ (l : List ℕ). let x : Option (Code × List ℕ) = Some (code, l) in x) (sym (off.0 ∙ behind)), off.1)
 
 pub passed : (old new : Place) (code : Code) → (expression_at old.left ≡ Some (code, new.left)) × (new.total ≡ old.total) → Passes IsExpression code old new

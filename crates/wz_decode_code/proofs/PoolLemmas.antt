@@ -28,10 +28,14 @@ grown_stays old new held building g =
       building = record {
         names_rise = building.names_rise;
         once = building.once;
-        pools = record { each = λ n. every-of (λ i. InPools old.labels old.types i) (λ i. InPools (old.labels ++ g.labels) (old.types ++ g.types) i) (λ i h. in-more old.labels g.labels old.types g.types i h) (block_at old.blocks n) (building.pools.each n) };
+        pools = record {
+          each = λ n. every-of (λ i. InPools old.labels old.types i) (λ i. InPools (old.labels ++ g.labels) (old.types ++ g.types) i)
+              (λ i h. in-more old.labels g.labels old.types g.types i h) (block_at old.blocks n) (building.pools.each n);
+        };
       };
       trees = λ n. sym (tree-pools (λ i. leaf_of old.labels old.types i) (λ i. leaf_of (old.labels ++ g.labels) (old.types ++ g.types) i) old.blocks building.names_rise
-          (λ m. every-of (λ i. InPools old.labels old.types i) (λ i. leaf_of old.labels old.types i ≡ leaf_of (old.labels ++ g.labels) (old.types ++ g.types) i) (λ i h. leaf-more old.labels g.labels old.types g.types i h) (block_at old.blocks m) (building.pools.each m)) n);
+          (λ m. every-of (λ i. InPools old.labels old.types i) (λ i. leaf_of old.labels old.types i ≡ leaf_of (old.labels ++ g.labels) (old.types ++ g.types) i)
+          (λ i h. leaf-more old.labels g.labels old.types g.types i h) (block_at old.blocks m) (building.pools.each m)) n);
     })
 
 pub grown_locals : (old new : BodyParts) → PoolsGrown old new → new.locals ≡ old.locals
@@ -47,11 +51,13 @@ labels_items_none : (bytes mid : List ℕ) (count : ℕ) → u32_at bytes ≡ So
 unfolding symbol_at vector_at
 labels_items_none bytes mid count e f = rw (e, f) refl
 
-labels_last_none : (bytes mid rest labels : List ℕ) (count : ℕ) → u32_at bytes ≡ Some (count, mid) → items_at (λ b. u32_at b) count mid ≡ Some (labels, rest) → u32_at rest ≡ None → symbol_at (0x0E ∷ bytes) ≡ None
+labels_last_none : (bytes mid rest labels : List ℕ) (count : ℕ) → u32_at bytes ≡ Some (count, mid) → items_at (λ b. u32_at b) count mid ≡ Some (labels, rest) → u32_at rest ≡ None
+    → symbol_at (0x0E ∷ bytes) ≡ None
 unfolding symbol_at vector_at
 labels_last_none bytes mid rest labels count e f g = rw (e, f, g) refl
 
-labels_read : (bytes mid rest after labels : List ℕ) (count last : ℕ) → u32_at bytes ≡ Some (count, mid) → items_at (λ b. u32_at b) count mid ≡ Some (labels, rest) → u32_at rest ≡ Some (last, after)
+labels_read : (bytes mid rest after labels : List ℕ) (count last : ℕ) → u32_at bytes ≡ Some (count, mid) → items_at (λ b. u32_at b) count mid ≡ Some (labels, rest)
+    → u32_at rest ≡ Some (last, after)
     → symbol_at (0x0E ∷ bytes) ≡ Some (Single (TableBranch labels last), after)
 unfolding symbol_at vector_at
 labels_read bytes mid rest after labels count last e f g = rw (e, f, g) refl
@@ -62,17 +68,26 @@ no_count bytes e = labels_none bytes (sym e)
 pub no_labels : (bytes mid : List ℕ) (count : ℕ) → Some (count, mid) ≡ u32_at bytes → items_at (λ b. u32_at b) count mid ≡ None → symbol_at (0x0E ∷ bytes) ≡ None
 no_labels bytes mid count e f = labels_items_none bytes mid count (sym e) f
 
-pub no_last : (bytes mid rest : List ℕ) (count : ℕ) (old new : BodyParts) → Some (count, mid) ≡ u32_at bytes → Added (λ b. u32_at b) (λ body labels. with_labels body labels) count mid old new rest → None ≡ u32_at rest → symbol_at (0x0E ∷ bytes) ≡ None
+pub no_last : (bytes mid rest : List ℕ) (count : ℕ) (old new : BodyParts) → Some (count, mid) ≡ u32_at bytes
+    → Added (λ b. u32_at b) (λ body labels. with_labels body labels) count mid old new rest → None ≡ u32_at rest → symbol_at (0x0E ∷ bytes) ≡ None
 no_last bytes mid rest count old new e a g = labels_last_none bytes mid rest a.items count (sym e) a.all (sym g)
 
-pub table_read : (bytes mid rest after : List ℕ) (count first last : ℕ) (old new : BodyParts) → Some (count, mid) ≡ u32_at bytes → Added (λ b. u32_at b) (λ body labels. with_labels body labels) count mid old new rest
+pub table_read : (bytes mid rest after : List ℕ) (count first last : ℕ) (old new : BodyParts) → Some (count, mid) ≡ u32_at bytes
+    → Added (λ b. u32_at b) (λ body labels. with_labels body labels) count mid old new rest
     → Stand first count old.labels new.labels → Some (last, after) ≡ u32_at rest → SymbolRead (0x0E ∷ bytes) old new (token.Plain (BrTable first count last)) after
 table_read bytes mid rest after count first last old new e a s g =
-    let are : take count (drop first new.labels) ≡ a.items = s.are ∙ ap (λ (b : BodyParts). drop (length old.labels) b.labels) a.is ∙ drop_at old.labels a.items (length old.labels) refl in
+    let are : take count (drop first new.labels) ≡ a.items = s.are ∙ ap (λ (b : BodyParts). drop (length old.labels) b.labels) a.is
+    ∙ drop_at old.labels a.items (length old.labels) refl in
     let size : item_count new ≡ item_count old + length a.items = let l = length-append old.labels a.items in omega (arith, ap (λ (b : BodyParts). item_count b) a.is, l) in
     record {
-      read = labels_read bytes mid rest after a.items count last (sym e) a.all (sym g) ∙ ap (λ (ls : List ℕ). let o : Option (Symbol × List ℕ) = Some (Single (TableBranch ls last), after) in o) (sym are);
-      grown = record { labels = a.items; types = []; is = a.is ∙ ap (λ (ts : List ValType). record old { labels = old.labels ++ a.items; types = ts }) (sym (append-nil old.types)) };
+      read = labels_read bytes mid rest after a.items count last (sym e) a.all (sym g)
+          ∙ ap (λ (ls : List ℕ). let o : Option (Symbol × List ℕ) = Some (Single (TableBranch ls last), after) in o) (sym are);
+      grown = record {
+        labels = a.items;
+        types = [];
+        is = a.is
+            ∙ ap (λ (ts : List ValType). record old { labels = old.labels ++ a.items; types = ts }) (sym (append-nil old.types));
+      };
       fits = (tt, s.within);
       room = omega (arith, size, a.fewer, u32_shorter bytes count mid (sym e), u32_shorter rest last after (sym g));
     }
@@ -98,13 +113,16 @@ no_type_count bytes e = types_none bytes (sym e)
 pub no_types : (bytes mid : List ℕ) (count : ℕ) → Some (count, mid) ≡ u32_at bytes → items_at (λ b. type_at b) count mid ≡ None → symbol_at (0x1C ∷ bytes) ≡ None
 no_types bytes mid count e f = types_items_none bytes mid count (sym e) f
 
-pub select_read : (bytes mid rest : List ℕ) (count first : ℕ) (old new : BodyParts) → Some (count, mid) ≡ u32_at bytes → Added (λ b. type_at b) (λ body types. with_types body types) count mid old new rest
+pub select_read : (bytes mid rest : List ℕ) (count first : ℕ) (old new : BodyParts) → Some (count, mid) ≡ u32_at bytes
+    → Added (λ b. type_at b) (λ body types. with_types body types) count mid old new rest
     → Stand first count old.types new.types → SymbolRead (0x1C ∷ bytes) old new (token.Plain (SelectTyped first count)) rest
 select_read bytes mid rest count first old new e a s =
-    let are : take count (drop first new.types) ≡ a.items = s.are ∙ ap (λ (b : BodyParts). drop (length old.types) b.types) a.is ∙ drop_at old.types a.items (length old.types) refl in
+    let are : take count (drop first new.types) ≡ a.items = s.are ∙ ap (λ (b : BodyParts). drop (length old.types) b.types) a.is
+    ∙ drop_at old.types a.items (length old.types) refl in
     let size : item_count new ≡ item_count old + length a.items = let l = length-append old.types a.items in omega (arith, ap (λ (b : BodyParts). item_count b) a.is, l) in
     record {
-      read = types_read bytes mid rest a.items count (sym e) a.all ∙ ap (λ (ts : List ValType). let o : Option (Symbol × List ℕ) = Some (Single (TypedSelect ts), rest) in o) (sym are);
+      read = types_read bytes mid rest a.items count (sym e) a.all
+          ∙ ap (λ (ts : List ValType). let o : Option (Symbol × List ℕ) = Some (Single (TypedSelect ts), rest) in o) (sym are);
       grown = record { labels = []; types = a.items; is = a.is ∙ ap (λ (ls : List ℕ). record old { labels = ls; types = old.types ++ a.items }) (sym (append-nil old.labels)) };
       fits = (tt, s.within);
       room = omega (arith, size, a.fewer, u32_shorter bytes count mid (sym e));

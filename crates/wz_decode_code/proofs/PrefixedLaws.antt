@@ -22,10 +22,12 @@ abbrev IsBehind : ℕ → List ℕ → Instr → Type 0
 IsBehind second text i = (number : List ℕ) → IsU32 number second → IsPlain (0xFC ∷ (number ++ text)) i
 
 second_row : {X : Type 0} (S : List ℕ → X → Type 0) (p : List ℕ → Option (X × List ℕ)) → IsExact S p → (f : X → Instr) (n k : ℕ) (bytes : List ℕ) (others : Option (Instr × List ℕ))
-    → ((text : List ℕ) (x : X) → S text x → IsBehind k text (f x)) → Finds (λ t i. IsBehind n t i) bytes others → Finds (λ t i. IsBehind n t i) bytes (cond (nat_eq n k) (made_at f p bytes) others)
+    → ((text : List ℕ) (x : X) → S text x → IsBehind k text (f x)) → Finds (λ t i. IsBehind n t i) bytes others
+    → Finds (λ t i. IsBehind n t i) bytes (cond (nat_eq n k) (made_at f p bytes) others)
 second_row S p exact f n k bytes others spelled more =
     found_or (λ t i. IsBehind n t i) bytes (nat_eq n k) (made_at f p bytes) others
-    (λ is. subst (λ (m : ℕ). Finds (λ t i. IsBehind m t i) bytes (made_at f p bytes)) (sym (eqb-true n k is)) (made_finds S p exact (λ t i. IsBehind k t i) f spelled bytes)) (λ _. more)
+    (λ is. subst (λ (m : ℕ). Finds (λ t i. IsBehind m t i) bytes (made_at f p bytes)) (sym (eqb-true n k is)) (made_finds S p exact (λ t i. IsBehind k t i) f spelled bytes))
+    (λ _. more)
 
 number_second : (f : ℕ → Instr) (n k : ℕ) (bytes : List ℕ) (others : Option (Instr × List ℕ)) → ((text : List ℕ) (x : ℕ) → IsU32 text x → IsBehind k text (f x))
     → Finds (λ t i. IsBehind n t i) bytes others → Finds (λ t i. IsBehind n t i) bytes (cond (nat_eq n k) (made_at f (λ b. u32_at b) bytes) others)
@@ -73,7 +75,8 @@ prefixed_numeric_finds n bytes i rest e =
     })
 
 second_finds : (n : ℕ) (bytes : List ℕ)
-    → Finds (λ t i. IsBehind n t i) bytes (cond (nat_lt n 8) (option_map (λ i. (i, bytes)) (prefixed_numeric_of n)) (cond (nat_lt n 12) (prefixed_memory_at n bytes) (prefixed_table_at n bytes)))
+    → Finds (λ t i. IsBehind n t i) bytes (cond (nat_lt n 8) (option_map (λ i. (i, bytes)) (prefixed_numeric_of n))
+    (cond (nat_lt n 12) (prefixed_memory_at n bytes) (prefixed_table_at n bytes)))
 second_finds n bytes =
     found_or (λ t i. IsBehind n t i) bytes (nat_lt n 8) _ _ (λ _. prefixed_numeric_finds n bytes) (λ _.
     found_or (λ t i. IsBehind n t i) bytes (nat_lt n 12) _ _ (λ _. prefixed_memory_finds n bytes) (λ _. prefixed_table_finds n bytes))

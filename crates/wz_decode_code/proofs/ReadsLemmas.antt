@@ -6,7 +6,8 @@ use Rattle.wz_decode_code.specs.Tokens.{Symbol, symbol_at}
 use Rattle.wz_decode_code.specs.Reading.{Around, Next, On, Done, Refused, after_symbol, go_on, rest_at, reads}
 use Rattle.wz_decode_code.proofs.SymbolLaws.{symbol_shorter}
 
-go_same : (m n : Code → List Around → Option (Code × List ℕ)) (bytes : List ℕ) (next : Next) → ((here : Code) (around : List Around) → m here around ≡ n here around) → go_on m bytes next ≡ go_on n bytes next
+go_same : (m n : Code → List Around → Option (Code × List ℕ)) (bytes : List ℕ) (next : Next) → ((here : Code) (around : List Around) → m here around ≡ n here around)
+    → go_on m bytes next ≡ go_on n bytes next
 go_same m n bytes (On here around) h = h here around
 go_same m n bytes (Done code) h = refl
 go_same m n bytes Refused h = refl
@@ -31,7 +32,8 @@ pub reads_step : (bytes : List ℕ) (s : Symbol) (rest : List ℕ) (here : Code)
 unfolding reads rest_at
 reads_step bytes s rest here around e =
     let shorter = symbol_shorter bytes s rest e in
-    let one : rest_at (length bytes) bytes here around ≡ rest_at (suc (length bytes)) bytes here around = rest_at_same (length bytes) (suc (length bytes)) bytes here around (omega arith) (omega arith) in
+    let one : rest_at (length bytes) bytes here around ≡ rest_at (suc (length bytes)) bytes here around = rest_at_same (length bytes) (suc (length bytes)) bytes here around
+    (omega arith) (omega arith) in
     let two : rest_at (suc (length bytes)) bytes here around ≡ go_on (λ h a. rest_at (length bytes) rest h a) rest (after_symbol s here around) = rw e refl in
     one ∙ two ∙ go_same (λ h a. rest_at (length bytes) rest h a) (λ h a. rest_at (length rest) rest h a) rest (after_symbol s here around)
     (λ h a. rest_at_same (length bytes) (length rest) rest h a (omega arith) (omega arith))
@@ -39,6 +41,7 @@ reads_step bytes s rest here around e =
 pub reads_none : (bytes : List ℕ) (here : Code) (around : List Around) → symbol_at bytes ≡ None → reads bytes here around ≡ None
 unfolding reads rest_at
 reads_none bytes here around e =
-    let one : rest_at (length bytes) bytes here around ≡ rest_at (suc (length bytes)) bytes here around = rest_at_same (length bytes) (suc (length bytes)) bytes here around (omega arith) (omega arith) in
+    let one : rest_at (length bytes) bytes here around ≡ rest_at (suc (length bytes)) bytes here around = rest_at_same (length bytes) (suc (length bytes)) bytes here around
+    (omega arith) (omega arith) in
     let two : rest_at (suc (length bytes)) bytes here around ≡ None = rw e refl in
     one ∙ two

@@ -14,11 +14,13 @@ made_finds {Y = Y} S p exact Spells f spelled bytes y rest e =
     let a = exact.found bytes x.0.0 x.0.1 x.1 in
     subst (λ (w : Y × List ℕ). Front Spells bytes w.0 w.1) (some_is _ _ x.2) (record { text = a.text; parts = a.parts; spelled = spelled a.text x.0.0 a.spelled })
 
-pub made_again : {X Y : Type 0} (S : List ℕ → X → Type 0) (p : List ℕ → Option (X × List ℕ)) → IsExact S p → (f : X → Y) (text rest : List ℕ) (x : X) → S text x → made_at f p (text ++ rest) ≡ Some (f x, rest)
+pub made_again : {X Y : Type 0} (S : List ℕ → X → Type 0) (p : List ℕ → Option (X × List ℕ)) → IsExact S p → (f : X → Y) (text rest : List ℕ) (x : X) → S text x
+    → made_at f p (text ++ rest) ≡ Some (f x, rest)
 made_again S p exact f text rest x h = rw (exact.again text x rest h) refl
 
 -- an opcode in front
-pub tag_finds : {Y : Type 0} (Spells : List ℕ → Y → Type 0) (b k : ℕ) (bytes : List ℕ) (read : Option (Y × List ℕ)) → b ≡ k → Finds (λ t y. Spells (k ∷ t) y) bytes read → Finds Spells (b ∷ bytes) read
+pub tag_finds : {Y : Type 0} (Spells : List ℕ → Y → Type 0) (b k : ℕ) (bytes : List ℕ) (read : Option (Y × List ℕ)) → b ≡ k → Finds (λ t y. Spells (k ∷ t) y) bytes read
+    → Finds Spells (b ∷ bytes) read
 tag_finds Spells b k bytes read is finds y rest e =
     let f = finds y rest e in
     record { text = k ∷ f.text; parts = rw is (ap (λ (t : List ℕ). k ∷ t) f.parts); spelled = f.spelled }
@@ -30,7 +32,8 @@ bare_finds {Y = Y} Spells y spelled bytes z rest e =
 
 -- ---- one row in front of the others
 
-pub row : {X Y : Type 0} (S : List ℕ → X → Type 0) (p : List ℕ → Option (X × List ℕ)) → IsExact S p → (Spells : List ℕ → Y → Type 0) (f : X → Y) (b k : ℕ) (bytes : List ℕ) (others : Option (Y × List ℕ))
+pub row : {X Y : Type 0} (S : List ℕ → X → Type 0) (p : List ℕ → Option (X × List ℕ)) → IsExact S p
+    → (Spells : List ℕ → Y → Type 0) (f : X → Y) (b k : ℕ) (bytes : List ℕ) (others : Option (Y × List ℕ))
     → ((text : List ℕ) (x : X) → S text x → Spells (k ∷ text) (f x)) → Finds Spells (b ∷ bytes) others → Finds Spells (b ∷ bytes) (cond (nat_eq b k) (made_at f p bytes) others)
 row S p exact Spells f b k bytes others spelled more =
     found_or Spells (b ∷ bytes) (nat_eq b k) (made_at f p bytes) others

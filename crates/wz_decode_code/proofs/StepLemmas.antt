@@ -28,10 +28,12 @@ part_same A B b agree kind.Loop rest h = (refl, h)
 part_same A B b agree kind.First rest h = (refl, h)
 part_same A B b agree (kind.Second first) rest h = (ap (λ (c : Code). OfSecond c) (agree first h.0), h.1)
 
-around_is : (p q : BlockPart) (s : Shape) (c d : Code) → p ≡ q → c ≡ d → (let x : Around = record { part = p; shape = s; before = c } in x) ≡ record { part = q; shape = s; before = d }
+around_is : (p q : BlockPart) (s : Shape) (c d : Code) → p ≡ q → c ≡ d
+    → (let x : Around = record { part = p; shape = s; before = c } in x) ≡ record { part = q; shape = s; before = d }
 around_is p q s c d e f = rw (e, f) refl
 
-arounds_same : (A B : BodyParts) (b : ℕ) → ((n : ℕ) → n ≢ b → tree_of A n ≡ tree_of B n) → (opens : List Open) → Every (λ n. n ≢ b) (unnamed_around opens) → arounds A opens ≡ arounds B opens
+arounds_same : (A B : BodyParts) (b : ℕ) → ((n : ℕ) → n ≢ b → tree_of A n ≡ tree_of B n) → (opens : List Open) → Every (λ n. n ≢ b) (unnamed_around opens)
+    → arounds A opens ≡ arounds B opens
 arounds_same A B b agree [] h = refl
 arounds_same A B b agree (o ∷ opens) h =
     let p = part_same A B b agree o.kind (o.parent ∷ unnamed_around opens) h in
@@ -47,7 +49,8 @@ part_all A B agree (kind.Second first) = ap (λ (c : Code). OfSecond c) (agree f
 pub arounds_all : (A B : BodyParts) → ((n : ℕ) → tree_of A n ≡ tree_of B n) → (opens : List Open) → arounds A opens ≡ arounds B opens
 arounds_all A B agree [] = refl
 arounds_all A B agree (o ∷ opens) =
-    let first : around_of A o ≡ around_of B o = around_is (part_of A o.kind) (part_of B o.kind) o.shape (tree_of A o.parent) (tree_of B o.parent) (part_all A B agree o.kind) (agree o.parent) in
+    let first : around_of A o ≡ around_of B o = around_is (part_of A o.kind) (part_of B o.kind) o.shape (tree_of A o.parent) (tree_of B o.parent) (part_all A B agree o.kind)
+    (agree o.parent) in
     cc (first, arounds_all A B agree opens)
 
 -- ---- a plain instruction
@@ -98,16 +101,20 @@ opened_holds body here opens o reading parent none =
     let within = here_within body here opens reading in
     let below : o.parent < length body.blocks = rw parent within in
     let rising : ParentsRise o.parent opens = rw parent reading.rises in
-    let taken : BlockTaken body (unnamed_blocks (length body.blocks) (o ∷ opens)) = taking_block body (unnamed_blocks here opens) (unnamed_blocks (length body.blocks) (o ∷ opens)) reading.building (λ k. rw (none, parent) refl) in
+    let taken : BlockTaken body (unnamed_blocks (length body.blocks) (o ∷ opens)) = taking_block body (unnamed_blocks here opens)
+    (unnamed_blocks (length body.blocks) (o ∷ opens)) reading.building (λ k. rw (none, parent) refl) in
     record {
       reading = record { building = taken.building; rises = (below, rw none tt, rising) };
       code = taken.here;
-      around = arounds_all (with_block body) body (λ n. taken.elsewhere n) (o ∷ opens) ∙ ap (λ (n : ℕ). record { part = part_of body o.kind; shape = o.shape; before = tree_of body n } ∷ arounds body opens) parent;
+      around = arounds_all (with_block body) body (λ n. taken.elsewhere n) (o ∷ opens)
+          ∙ ap (λ (n : ℕ). record { part = part_of body o.kind; shape = o.shape; before = tree_of body n } ∷ arounds body opens) parent;
     }
 
 -- the second arm of an if begins
-second_holds : (body : BodyParts) (here : ℕ) (opens : List Open) (o now : Open) → IsReading body here (o ∷ opens) → o.kind ≡ kind.First → now.kind ≡ kind.Second here → now.shape ≡ o.shape → now.parent ≡ o.parent
-    → Holds (with_block body) (length body.blocks) (now ∷ opens) End (record { part = OfSecond (tree_of body here); shape = o.shape; before = tree_of body o.parent } ∷ arounds body opens)
+second_holds : (body : BodyParts) (here : ℕ) (opens : List Open) (o now : Open) → IsReading body here (o ∷ opens) → o.kind ≡ kind.First → now.kind ≡ kind.Second here
+    → now.shape ≡ o.shape → now.parent ≡ o.parent
+    → Holds (with_block body) (length body.blocks) (now ∷ opens) End
+    (record { part = OfSecond (tree_of body here); shape = o.shape; before = tree_of body o.parent } ∷ arounds body opens)
 second_holds body here opens o now reading was is shape parent =
     let within = here_within body here (o ∷ opens) reading in
     let behind = reading.rises.0 in
@@ -115,7 +122,8 @@ second_holds body here opens o now reading was is shape parent =
     let rising : ParentsRise now.parent opens = rw parent reading.rises.2 in
     let before : unnamed_blocks here (o ∷ opens) ≡ here ∷ o.parent ∷ unnamed_around opens = rw was refl in
     let now_held : unnamed_blocks (length body.blocks) (now ∷ opens) ≡ length body.blocks ∷ here ∷ o.parent ∷ unnamed_around opens = rw (is, parent) refl in
-    let taken : BlockTaken body (unnamed_blocks (length body.blocks) (now ∷ opens)) = taking_block body (unnamed_blocks here (o ∷ opens)) (unnamed_blocks (length body.blocks) (now ∷ opens)) reading.building
+    let taken : BlockTaken body (unnamed_blocks (length body.blocks) (now ∷ opens)) = taking_block body (unnamed_blocks here (o ∷ opens))
+    (unnamed_blocks (length body.blocks) (now ∷ opens)) reading.building
     (λ k. ap (λ (h : List ℕ). times k h) now_held ∙ ap (λ (h : List ℕ). times k (length body.blocks ∷ h)) (sym before)) in
     record {
       reading = record { building = taken.building; rises = (below, rw (is, parent) (behind, tt), rising) };
@@ -156,12 +164,14 @@ parent_within : (body : BodyParts) (here : ℕ) (opens : List Open) (o : Open) �
 parent_within body here opens o reading = (held_is_there body (unnamed_blocks here (o ∷ opens)) o.parent reading.building (parent_held here opens o)).0
 
 closed_holds : (body : BodyParts) (here : ℕ) (opens : List Open) (o : Open) → IsReading body here (o ∷ opens)
-    → Holds (with_instr body o.parent (node_of o.kind o.shape here)) o.parent opens (joined (tree_of body o.parent) (node (part_of body o.kind) o.shape (tree_of body here))) (arounds body opens)
+    → Holds (with_instr body o.parent (node_of o.kind o.shape here)) o.parent opens (joined (tree_of body o.parent) (node (part_of body o.kind) o.shape (tree_of body here)))
+    (arounds body opens)
 closed_holds body here opens o reading =
     let b = o.parent in
     let instr = node_of o.kind o.shape here in
     let there = held_is_there body (unnamed_blocks here (o ∷ opens)) b reading.building (parent_held here opens o) in
-    let away : Every (λ n. n ≢ b) (unnamed_around opens) = not-times b (unnamed_around opens) (omega (arith, times-append b (first_arm_of o.kind) (b ∷ unnamed_around opens), times-here b (unnamed_around opens), there.1)) in
+    let away : Every (λ n. n ≢ b) (unnamed_around opens) = not-times b (unnamed_around opens)
+    (omega (arith, times-append b (first_arm_of o.kind) (b ∷ unnamed_around opens), times-here b (unnamed_around opens), there.1)) in
     let taken : InstrTaken body b instr (unnamed_blocks b opens) = taking_instr body (unnamed_blocks here (o ∷ opens)) b instr (unnamed_blocks b opens) reading.building (record {
       held = parent_held here opens o;
       rises = node_names (λ k. b < k) o.kind o.shape here reading.rises.0 reading.rises.1;
@@ -190,7 +200,8 @@ follow : (t : Token) (old : BodyParts) (was : ℕ) (before : List Open) (new : B
     → Holds new here opens c outside → after_symbol (seen_in old t) (tree_of old was) (arounds old before) ≡ On c outside → Goal t old was before new here opens
 follow t old was before new here opens c outside holds e = (holds.reading, e ∙ rw (holds.code, holds.around) refl)
 
-pub plain_follows : (old new : BodyParts) (here : ℕ) (opens : List Open) (t : Token) (instr : Instr) → IsReading old here opens → TokenFits old t → t ≡ token.Plain instr → new ≡ with_instr old here instr
+pub plain_follows : (old new : BodyParts) (here : ℕ) (opens : List Open) (t : Token) (instr : Instr) → IsReading old here opens → TokenFits old t → t ≡ token.Plain instr
+    → new ≡ with_instr old here instr
     → Goal t old here opens new here opens
 plain_follows old new here opens t instr reading fits is grown =
     let fit = rw is at fits in
@@ -199,14 +210,18 @@ plain_follows old new here opens t instr reading fits is grown =
     (follow t old here opens (with_instr old here instr) here opens (joined (tree_of old here) (Then (leaf_in old instr) End)) (arounds old opens) holds (rw is refl))
 
 pub begin_follows : (old new : BodyParts) (here inner : ℕ) (xs ys : List Open) (o : Open) (t : Token) → IsReading old here (reverse xs) → o.parent ≡ here → first_arm_of o.kind ≡ []
-    → inner ≡ length old.blocks → new ≡ with_block old → ys ≡ xs ++ o ∷ [] → after_symbol (seen_in old t) (tree_of old here) (arounds old (reverse xs)) ≡ On End (record { part = part_of old o.kind; shape = o.shape; before = tree_of old here } ∷ arounds old (reverse xs))
+    → inner ≡ length old.blocks → new ≡ with_block old → ys ≡ xs ++ o ∷ []
+    → after_symbol (seen_in old t) (tree_of old here) (arounds old (reverse xs)) ≡ On End
+    (record { part = part_of old o.kind; shape = o.shape; before = tree_of old here } ∷ arounds old (reverse xs))
     → Goal t old here (reverse xs) new inner (reverse ys)
 begin_follows old new here inner xs ys o t reading parent none number grown pushed e =
     let holds = opened_holds old here (reverse xs) o reading parent none in
     rw (number, grown, pushed, reverse_push xs o)
-    (follow t old here (reverse xs) (with_block old) (length old.blocks) (o ∷ reverse xs) End (record { part = part_of old o.kind; shape = o.shape; before = tree_of old here } ∷ arounds old (reverse xs)) holds e)
+    (follow t old here (reverse xs) (with_block old) (length old.blocks) (o ∷ reverse xs) End
+    (record { part = part_of old o.kind; shape = o.shape; before = tree_of old here } ∷ arounds old (reverse xs)) holds e)
 
-pub second_follows : (old new : BodyParts) (here inner : ℕ) (xs mid ys : List Open) (o now : Open) (t : Token) → IsReading old here (reverse xs) → xs ≡ mid ++ o ∷ [] → o.kind ≡ kind.First
+pub second_follows : (old new : BodyParts) (here inner : ℕ) (xs mid ys : List Open) (o now : Open) (t : Token) → IsReading old here (reverse xs) → xs ≡ mid ++ o ∷ []
+    → o.kind ≡ kind.First
     → now.kind ≡ kind.Second here → now.shape ≡ o.shape → now.parent ≡ o.parent → t ≡ token.Else
     → inner ≡ length old.blocks → new ≡ with_block old → ys ≡ mid ++ now ∷ [] → Goal t old here (reverse xs) new inner (reverse ys)
 second_follows old new here inner xs mid ys o now t reading popped was is shape parent else_is number grown pushed =
@@ -214,7 +229,8 @@ second_follows old new here inner xs mid ys o now t reading popped was is shape 
     let reading_o = rw before at reading in
     let holds = second_holds old here (reverse mid) o now reading_o was is shape parent in
     rw (number, grown, pushed, before, reverse_push mid now)
-    (follow t old here (o ∷ reverse mid) (with_block old) (length old.blocks) (now ∷ reverse mid) End (record { part = OfSecond (tree_of old here); shape = o.shape; before = tree_of old o.parent } ∷ arounds old (reverse mid)) holds (rw (else_is, was) refl))
+    (follow t old here (o ∷ reverse mid) (with_block old) (length old.blocks) (now ∷ reverse mid) End
+    (record { part = OfSecond (tree_of old here); shape = o.shape; before = tree_of old o.parent } ∷ arounds old (reverse mid)) holds (rw (else_is, was) refl))
 
 pub end_follows : (old new : BodyParts) (here : ℕ) (xs mid : List Open) (o : Open) (t : Token) → IsReading old here (reverse xs) → xs ≡ mid ++ o ∷ [] → t ≡ token.End
     → new ≡ with_instr old o.parent (node_of o.kind o.shape here) → Goal t old here (reverse xs) new o.parent (reverse mid)
@@ -223,7 +239,8 @@ end_follows old new here xs mid o t reading popped end_is grown =
     let reading_o = rw before at reading in
     let holds = closed_holds old here (reverse mid) o reading_o in
     rw (grown, before)
-    (follow t old here (o ∷ reverse mid) (with_instr old o.parent (node_of o.kind o.shape here)) o.parent (reverse mid) (joined (tree_of old o.parent) (node (part_of old o.kind) o.shape (tree_of old here))) (arounds old (reverse mid)) holds (rw end_is refl))
+    (follow t old here (o ∷ reverse mid) (with_instr old o.parent (node_of o.kind o.shape here)) o.parent (reverse mid)
+    (joined (tree_of old o.parent) (node (part_of old o.kind) o.shape (tree_of old here))) (arounds old (reverse mid)) holds (rw end_is refl))
 
 pub end_within : (old : BodyParts) (here : ℕ) (xs mid : List Open) (o : Open) → IsReading old here (reverse xs) → xs ≡ mid ++ o ∷ [] → o.parent < length old.blocks
 end_within old here xs mid o reading popped =

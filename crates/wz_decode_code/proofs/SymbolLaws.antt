@@ -91,7 +91,8 @@ abbrev IsLabels : List ℕ → List ℕ × ℕ → Type 0
 IsLabels text x = Both (λ t ls. IsVector (λ t n. IsU32 t n) t ls) (λ t n. IsU32 t n) text x
 
 labels_exact : IsExact IsLabels (λ bytes. branch_labels_at bytes)
-labels_exact = both_exact (λ t ls. IsVector (λ t n. IsU32 t n) t ls) (λ t n. IsU32 t n) (λ b. vector_at (λ b. u32_at b) b) (λ b. u32_at b) (vector_exact (λ t n. IsU32 t n) (λ b. u32_at b) u32_exact) u32_exact
+labels_exact = both_exact (λ t ls. IsVector (λ t n. IsU32 t n) t ls) (λ t n. IsU32 t n) (λ b. vector_at (λ b. u32_at b) b) (λ b. u32_at b)
+    (vector_exact (λ t n. IsU32 t n) (λ b. u32_at b) u32_exact) u32_exact
 
 abbrev IsTypes : List ℕ → List ValType → Type 0
 IsTypes text ts = IsVector (λ t type. IsValType t type) text ts
@@ -122,8 +123,10 @@ by_token text t rest h = token_symbol (text ++ rest) t rest (token_again text t 
 symbol_again : (text : List ℕ) (s : Symbol) (rest : List ℕ) → IsSymbol text s → symbol_at (text ++ rest) ≡ Some (s, rest)
 unfolding symbol_at
 symbol_again text (Single (Plain i)) rest h = by_token text (token.Plain i) rest h
-symbol_again text (Single (TableBranch labels last)) rest h = rw h.1 (made_again IsLabels (λ b. branch_labels_at b) labels_exact (λ x. Single (TableBranch x.0 x.1)) h.0 rest (labels, last) h.2)
-symbol_again text (Single (TypedSelect types)) rest h = rw h.1 (made_again IsTypes (λ b. vector_at (λ b. type_at b) b) types_exact (λ ts. Single (TypedSelect ts)) h.0 rest types h.2)
+symbol_again text (Single (TableBranch labels last)) rest h = rw h.1
+    (made_again IsLabels (λ b. branch_labels_at b) labels_exact (λ x. Single (TableBranch x.0 x.1)) h.0 rest (labels, last) h.2)
+symbol_again text (Single (TypedSelect types)) rest h = rw h.1
+    (made_again IsTypes (λ b. vector_at (λ b. type_at b) b) types_exact (λ ts. Single (TypedSelect ts)) h.0 rest types h.2)
 symbol_again text (BeginsBlock s) rest h = by_token text (token.Block s) rest h
 symbol_again text (BeginsLoop s) rest h = by_token text (token.Loop s) rest h
 symbol_again text (BeginsIf s) rest h = by_token text (token.If s) rest h

@@ -20,7 +20,8 @@ use Rattle.wz_decode_code.proofs.RowLemmas.{bare_row}
 
 -- ---- types of values
 
-type_or : (b k : ℕ) (type : ValType) (others : Option ValType) (x : ValType) → k ≡ type_byte type → (others ≡ Some x → b ≡ type_byte x) → cond (nat_eq b k) (Some type) others ≡ Some x → b ≡ type_byte x
+type_or : (b k : ℕ) (type : ValType) (others : Option ValType) (x : ValType) → k ≡ type_byte type → (others ≡ Some x → b ≡ type_byte x)
+    → cond (nat_eq b k) (Some type) others ≡ Some x → b ≡ type_byte x
 type_or b k type others x is more e = elim (chosen (nat_eq b k) (Some type) others _ e) [
   | inl y ↦ eqb-true b k y.0 ∙ is ∙ ap (λ (t : ValType). type_byte t) (some_is _ _ y.1)
   | inr n ↦ more n.1
@@ -49,7 +50,8 @@ type_exact = record { found = value_found; again = λ text x rest h. rw (h, type
 
 -- ---- types of references
 
-kind_or : (b k : ℕ) (kind : RefKind) (others : Option RefKind) (x : RefKind) → k ≡ kind_byte kind → (others ≡ Some x → b ≡ kind_byte x) → cond (nat_eq b k) (Some kind) others ≡ Some x → b ≡ kind_byte x
+kind_or : (b k : ℕ) (kind : RefKind) (others : Option RefKind) (x : RefKind) → k ≡ kind_byte kind → (others ≡ Some x → b ≡ kind_byte x)
+    → cond (nat_eq b k) (Some kind) others ≡ Some x → b ≡ kind_byte x
 kind_or b k kind others x is more e = elim (chosen (nat_eq b k) (Some kind) others _ e) [
   | inl y ↦ eqb-true b k y.0 ∙ is ∙ ap (λ (t : RefKind). kind_byte t) (some_is _ _ y.1)
   | inr n ↦ more n.1

@@ -1,5 +1,6 @@
 -- A body to which items, and labels and types of its pools, are added while its code is read.
 use Rattle.std.specs.Prelude.{◌≡◌, ℕ, ◌+◌, ◌-◌, ◌<◌, ◌≤◌, ◌++◌, List, length, take, drop, Option, Some, None}
+use Rattle.wz_bytes.specs.Reading.{Reading}
 use Rattle.wz_bytes.specs.Forms.{items_at}
 use Rattle.wz_types.specs.declared.types.ValType.{ValType}
 use Rattle.wz_code.specs.BodyParts.{BodyParts, item_count}
@@ -27,7 +28,7 @@ behind_items items None = None
 behind_items items (Some others) = Some (items ++ others.0, others.1)
 
 -- So many of the items that stand in front of the bytes have been added to the body, and the others stand in front of the rest.
-pub record Adding {X : Type 0} (read : List ℕ → Option (X × List ℕ)) (grow : BodyParts → List X → BodyParts) (n i : ℕ) (bytes : List ℕ) (old new : BodyParts) (rest : List ℕ) : Type 0 where
+pub record Adding {X : Type 0} (read : Reading X) (grow : BodyParts → List X → BodyParts) (n i : ℕ) (bytes : List ℕ) (old new : BodyParts) (rest : List ℕ) : Type 0 where
   pub items : List X
   pub many : length items ≡ i
   pub is : new ≡ grow old items
@@ -35,7 +36,7 @@ pub record Adding {X : Type 0} (read : List ℕ → Option (X × List ℕ)) (gro
   pub fewer : length items + length rest ≤ length bytes
 
 -- all of them have been added
-pub record Added {X : Type 0} (read : List ℕ → Option (X × List ℕ)) (grow : BodyParts → List X → BodyParts) (n : ℕ) (bytes : List ℕ) (old new : BodyParts) (rest : List ℕ) : Type 0 where
+pub record Added {X : Type 0} (read : Reading X) (grow : BodyParts → List X → BodyParts) (n : ℕ) (bytes : List ℕ) (old new : BodyParts) (rest : List ℕ) : Type 0 where
   pub items : List X
   pub many : length items ≡ n
   pub is : new ≡ grow old items

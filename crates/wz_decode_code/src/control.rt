@@ -1,7 +1,7 @@
 //! Control instructions that hold no others and no vector (Core Specification 2.0, section 5.4.1).
 
 ghost use Rattle.std.specs.Prelude.{◌≡◌};
-ghost use Rattle.wz_bytes.specs.Place.{Takes};
+ghost use Rattle.wz_bytes.specs.Place.{GivesFront};
 ghost use Rattle.wz_decode_code.specs.InstrReading.{control_instr_at};
 
 use crate::operands::two_numbers;
@@ -11,7 +11,7 @@ use wz_code::Instr;
 /// A control instruction, behind its opcode.
 #[tactic(auto, unfolding(crate::specs::InstrReading::control_instr_at))]
 pub(crate) fn read_control(opcode: u8, cursor: &mut Cursor<'_>) -> Option<Instr>
-    ensures { Takes (λ i. i) result cursor.new (control_instr_at opcode cursor.old.left) }
+    ensures { GivesFront (λ i. i) result cursor.new (control_instr_at opcode cursor.old.left) }
 {
     match opcode {
         0x00 => Some(Instr::Unreachable),

@@ -1,7 +1,7 @@
 //! What stands in an entry of the code section, within its size.
 
 ghost use Rattle.std.specs.Prelude.{◌≡◌, ◌<◌, ◌+◌, ◌-◌, ◌^◌, None, length, drop, IfOk, IsErrOf};
-ghost use Rattle.wz_bytes.specs.Place.{Takes};
+ghost use Rattle.wz_bytes.specs.Place.{GivesFront};
 ghost use Rattle.wz_bytes.specs.Forms.{items_at};
 ghost use Rattle.wz_decode_code.specs.declared.fault.CodeFault.TheVariants.{Bad};
 ghost use Rattle.wz_decode_code.specs.Entry.{IsEntry, entry_of, run_at, locals_at, count_of};
@@ -76,7 +76,7 @@ fn add_runs(
 
 /// The run of locals in front.
 fn take_run(cursor: &mut Cursor<'_>) -> Option<(u32, ValType)>
-    ensures { Takes (λ r. (r.0, r.1)) result cursor.new (run_at cursor.old.left) }
+    ensures { GivesFront (λ r. (r.0, r.1)) result cursor.new (run_at cursor.old.left) }
 {
     let many = cursor.number()?;
     let kind = take_type(cursor)?;

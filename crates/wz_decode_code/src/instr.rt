@@ -1,7 +1,7 @@
 //! Instructions that hold no others and no vector: which group of the standard each opcode is of.
 
 ghost use Rattle.std.specs.Prelude.{◌≡◌, ◌∷◌};
-ghost use Rattle.wz_bytes.specs.Place.{Takes};
+ghost use Rattle.wz_bytes.specs.Place.{GivesFront};
 ghost use Rattle.wz_decode_code.specs.InstrReading.{instr_at, prefixed_at};
 
 use crate::control::read_control;
@@ -17,7 +17,7 @@ use wz_code::Instr;
 /// The instruction that begins with this opcode, of which what is behind it stands at the cursor.
 #[tactic(auto, unfolding(crate::specs::InstrReading::instr_at))]
 pub(crate) fn read_instr(opcode: u8, cursor: &mut Cursor<'_>) -> Option<Instr>
-    ensures { Takes (λ i. i) result cursor.new (instr_at (opcode ∷ cursor.old.left)) }
+    ensures { GivesFront (λ i. i) result cursor.new (instr_at (opcode ∷ cursor.old.left)) }
 {
     if opcode < 0x1A {
         read_control(opcode, cursor)
@@ -43,7 +43,7 @@ pub(crate) fn read_instr(opcode: u8, cursor: &mut Cursor<'_>) -> Option<Instr>
 /// An instruction with the prefix, behind it.
 #[tactic(auto, unfolding(crate::specs::InstrReading::prefixed_at))]
 fn read_prefixed(cursor: &mut Cursor<'_>) -> Option<Instr>
-    ensures { Takes (λ i. i) result cursor.new (prefixed_at cursor.old.left) }
+    ensures { GivesFront (λ i. i) result cursor.new (prefixed_at cursor.old.left) }
 {
     let second = cursor.number()?;
     if second < 8 {

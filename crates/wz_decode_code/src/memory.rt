@@ -1,7 +1,7 @@
 //! Instructions of memories (Core Specification 2.0, section 5.4.6).
 
 ghost use Rattle.std.specs.Prelude.{◌≡◌};
-ghost use Rattle.wz_bytes.specs.Place.{Takes};
+ghost use Rattle.wz_bytes.specs.Place.{GivesFront};
 ghost use Rattle.wz_decode_code.specs.InstrReading.{access_instr_at, memory_instr_at, prefixed_memory_at};
 
 use crate::operands::{two_numbers, zero_byte};
@@ -11,7 +11,7 @@ use wz_code::{Instr, access_from_opcode};
 /// An instruction of memories, behind its opcode.
 #[tactic(auto, unfolding(crate::specs::InstrReading::memory_instr_at))]
 pub(crate) fn read_memory(opcode: u8, cursor: &mut Cursor<'_>) -> Option<Instr>
-    ensures { Takes (λ i. i) result cursor.new (memory_instr_at opcode cursor.old.left) }
+    ensures { GivesFront (λ i. i) result cursor.new (memory_instr_at opcode cursor.old.left) }
 {
     match opcode {
         0x3F => Some(Instr::MemorySize(zero_byte(cursor)?)),
@@ -23,7 +23,7 @@ pub(crate) fn read_memory(opcode: u8, cursor: &mut Cursor<'_>) -> Option<Instr>
 /// A load or a store, behind its opcode.
 #[tactic(auto, unfolding(crate::specs::InstrReading::access_instr_at))]
 fn read_access(opcode: u8, cursor: &mut Cursor<'_>) -> Option<Instr>
-    ensures { Takes (λ i. i) result cursor.new (access_instr_at opcode cursor.old.left) }
+    ensures { GivesFront (λ i. i) result cursor.new (access_instr_at opcode cursor.old.left) }
 {
     let op = access_from_opcode(opcode)?;
     let (align, offset) = two_numbers(cursor)?;
@@ -38,7 +38,7 @@ fn read_access(opcode: u8, cursor: &mut Cursor<'_>) -> Option<Instr>
 /// One with the prefix, behind the number that says which it is.
 #[tactic(auto, unfolding(crate::specs::InstrReading::prefixed_memory_at))]
 pub(crate) fn read_prefixed_memory(second: u32, cursor: &mut Cursor<'_>) -> Option<Instr>
-    ensures { Takes (λ i. i) result cursor.new (prefixed_memory_at second cursor.old.left) }
+    ensures { GivesFront (λ i. i) result cursor.new (prefixed_memory_at second cursor.old.left) }
 {
     match second {
         8 => {

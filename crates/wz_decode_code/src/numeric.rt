@@ -1,7 +1,7 @@
 //! Numeric instructions (Core Specification 2.0, section 5.4.7).
 
 ghost use Rattle.std.specs.Prelude.{◌≡◌};
-ghost use Rattle.wz_bytes.specs.Place.{Takes};
+ghost use Rattle.wz_bytes.specs.Place.{GivesFront};
 ghost use Rattle.wz_decode_code.specs.InstrReading.{numeric_instr_at, prefixed_numeric_of};
 
 use crate::operands::{float_32, float_64, integer_32, integer_64};
@@ -11,7 +11,7 @@ use wz_code::{Instr, from_opcode};
 /// A numeric instruction, behind its opcode.
 #[tactic(auto, unfolding(crate::specs::InstrReading::numeric_instr_at))]
 pub(crate) fn read_numeric(opcode: u8, cursor: &mut Cursor<'_>) -> Option<Instr>
-    ensures { Takes (λ i. i) result cursor.new (numeric_instr_at opcode cursor.old.left) }
+    ensures { GivesFront (λ i. i) result cursor.new (numeric_instr_at opcode cursor.old.left) }
 {
     match opcode {
         0x41 => Some(Instr::I32Const(integer_32(cursor)?)),

@@ -1,7 +1,7 @@
 //! Instructions of tables (Core Specification 2.0, section 5.4.5).
 
 ghost use Rattle.std.specs.Prelude.{◌≡◌};
-ghost use Rattle.wz_bytes.specs.Place.{Takes};
+ghost use Rattle.wz_bytes.specs.Place.{GivesFront};
 ghost use Rattle.wz_decode_code.specs.InstrReading.{table_instr_at, prefixed_table_at};
 
 use crate::operands::two_numbers;
@@ -11,7 +11,7 @@ use wz_code::Instr;
 /// An instruction of tables, behind its opcode.
 #[tactic(auto, unfolding(crate::specs::InstrReading::table_instr_at))]
 pub(crate) fn read_table(opcode: u8, cursor: &mut Cursor<'_>) -> Option<Instr>
-    ensures { Takes (λ i. i) result cursor.new (table_instr_at opcode cursor.old.left) }
+    ensures { GivesFront (λ i. i) result cursor.new (table_instr_at opcode cursor.old.left) }
 {
     let table = cursor.number()?;
     match opcode {
@@ -24,7 +24,7 @@ pub(crate) fn read_table(opcode: u8, cursor: &mut Cursor<'_>) -> Option<Instr>
 /// One with the prefix, behind the number that says which it is.
 #[tactic(auto, unfolding(crate::specs::InstrReading::prefixed_table_at))]
 pub(crate) fn read_prefixed_table(second: u32, cursor: &mut Cursor<'_>) -> Option<Instr>
-    ensures { Takes (λ i. i) result cursor.new (prefixed_table_at second cursor.old.left) }
+    ensures { GivesFront (λ i. i) result cursor.new (prefixed_table_at second cursor.old.left) }
 {
     match second {
         12 => {

@@ -1,7 +1,7 @@
 //! The pieces of code that hold no others.
 
 ghost use Rattle.std.specs.Prelude.{◌≡◌, ◌∷◌};
-ghost use Rattle.wz_bytes.specs.Place.{Takes};
+ghost use Rattle.wz_bytes.specs.Place.{GivesFront};
 ghost use Rattle.wz_decode_code.specs.Tokens.{token_at};
 
 use crate::instr::read_instr;
@@ -23,7 +23,7 @@ pub(crate) enum Token {
 /// The token that begins with this byte, where it isn't one of those with a vector in them.
 #[tactic(auto, unfolding(crate::specs::Tokens::token_at))]
 pub(crate) fn read_token(opcode: u8, cursor: &mut Cursor<'_>) -> Option<Token>
-    ensures { Takes (λ t. t) result cursor.new (token_at (opcode ∷ cursor.old.left)) }
+    ensures { GivesFront (λ t. t) result cursor.new (token_at (opcode ∷ cursor.old.left)) }
 {
     match opcode {
         0x02 => Some(Token::Block(take_shape(cursor)?)),

@@ -2,7 +2,7 @@
 
 ghost use Rattle.std.specs.Prelude.{◌≡◌, IfSome, IsNone, IfNone};
 ghost use Rattle.wz_bytes.specs.Reading.{NoFront};
-ghost use Rattle.wz_bytes.specs.Place.{Moves, Passes, Takes};
+ghost use Rattle.wz_bytes.specs.Place.{Moves, Passes, GivesFront};
 ghost use Rattle.wz_decode_code.specs.Types.{IsValType, IsRefKind, type_of_byte, kind_of_byte, type_at, kind_at, shape_at};
 
 use wz_bytes::Cursor;
@@ -35,7 +35,7 @@ fn kind_of(byte: u8) -> Option<RefKind>
     }
 }
 
-/// Takes a type of values, which is one byte.
+/// GivesFront a type of values, which is one byte.
 pub fn take_type(cursor: &mut Cursor<'_>) -> Option<ValType>
     ensures found { IfSome result (λ t. Passes IsValType t cursor.old cursor.new) }
     ensures none { IsNone result → NoFront IsValType cursor.old.left }
@@ -52,7 +52,7 @@ pub fn take_type(cursor: &mut Cursor<'_>) -> Option<ValType>
     Some(kind)
 }
 
-/// Takes a type of references, which is one byte.
+/// GivesFront a type of references, which is one byte.
 pub fn take_kind(cursor: &mut Cursor<'_>) -> Option<RefKind>
     ensures found { IfSome result (λ k. Passes IsRefKind k cursor.old cursor.new) }
     ensures none { IsNone result → NoFront IsRefKind cursor.old.left }
@@ -69,11 +69,11 @@ pub fn take_kind(cursor: &mut Cursor<'_>) -> Option<RefKind>
     Some(kind)
 }
 
-/// Takes the type of a block: nothing, one value, or a type's number, which is signed and not
+/// GivesFront the type of a block: nothing, one value, or a type's number, which is signed and not
 /// negative.
 #[tactic(auto, unfolding(crate::specs::Types::shape_at))]
 pub(crate) fn take_shape(cursor: &mut Cursor<'_>) -> Option<Shape>
-    ensures { Takes (λ s. s) result cursor.new (shape_at cursor.old.left) }
+    ensures { GivesFront (λ s. s) result cursor.new (shape_at cursor.old.left) }
 {
     let [byte, ..] = cursor.left() else {
         return None;

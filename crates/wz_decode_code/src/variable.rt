@@ -1,7 +1,7 @@
 //! Instructions of variables (Core Specification 2.0, section 5.4.4).
 
 ghost use Rattle.std.specs.Prelude.{◌≡◌};
-ghost use Rattle.wz_bytes.specs.Place.{Takes};
+ghost use Rattle.wz_bytes.specs.Place.{GivesFront};
 ghost use Rattle.wz_decode_code.specs.InstrReading.{variable_instr_at};
 
 use wz_bytes::Cursor;
@@ -10,7 +10,7 @@ use wz_code::Instr;
 /// An instruction of variables, behind its opcode.
 #[tactic(auto, unfolding(crate::specs::InstrReading::variable_instr_at))]
 pub(crate) fn read_variable(opcode: u8, cursor: &mut Cursor<'_>) -> Option<Instr>
-    ensures { Takes (λ i. i) result cursor.new (variable_instr_at opcode cursor.old.left) }
+    ensures { GivesFront (λ i. i) result cursor.new (variable_instr_at opcode cursor.old.left) }
 {
     let index = cursor.number()?;
     match opcode {

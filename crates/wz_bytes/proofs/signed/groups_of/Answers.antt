@@ -29,4 +29,5 @@ returns-clause-groups c =
     let i = c.loop-groups.invariant in
     let z = to_z w64 c.loop-groups.rest-bits in
     let small : is_one_group z ≡ true = sym c.is_one_group.ensures ∙ c.loop-groups-test.false in
-    rw c.low_group-2.ensures (signed_end c.loop-groups.groups c.loop-groups.count z (omega (arith, i.size)) small ∙ i.so_far ∙ ap (λ (x : ℤ). shortest_signed x) (to_z-of_z w64 c.args.value c.ranges.value))
+    rw c.low_group-2.ensures (signed_end c.loop-groups.groups c.loop-groups.count z (omega (arith, i.size)) small ∙ i.so_far
+    ∙ ap (λ (x : ℤ). shortest_signed x) (to_z-of_z w64 c.args.value c.ranges.value))

@@ -21,7 +21,8 @@ returns-in_err-body-clause-bad c =
 
 pub returns-then-not-is_empty-clause-bad : goal.returns-then-not-is_empty-clause-bad
 returns-then-not-is_empty-clause-bad c =
-    let some = more_behind _ _ _ _ _ _ c.in_ok-read_locals.ensures.ok c.in_ok-body.ensures.ok (λ e. let empty = rw (c.left.ensures ∙ e) at c.if-not-is_empty.ensures in absurd (cc empty)) in
+    let some = more_behind _ _ _ _ _ _ c.in_ok-read_locals.ensures.ok c.in_ok-body.ensures.ok
+    (λ e. let empty = rw (c.left.ensures ∙ e) at c.if-not-is_empty.ensures in absurd (cc empty)) in
     λ bad. rw (sym (ap (λ (p : Place). p.left) c.new-cursor.ensures)) some
 
 pub returns-clause-found : goal.returns-clause-found

@@ -8,7 +8,8 @@ use Rattle.wz_decode_code.proofs.LoopLemmas.{start_tree, no_longer, taken, passe
 use Rattle.wz_decode_code.proofs.expr.read_expr.Goals as goal
 
 -- the expression that was read ahead, as one in front of the bytes at the cursor
-ahead : (left rest behind : List ℕ) (start : Place) (code : Code) → start.left ≡ left → behind ≡ rest → expression_at start.left ≡ Some (code, rest) → expression_at left ≡ Some (code, behind)
+ahead : (left rest behind : List ℕ) (start : Place) (code : Code) → start.left ≡ left → behind ≡ rest → expression_at start.left ≡ Some (code, rest)
+    → expression_at left ≡ Some (code, behind)
 ahead left rest behind start code from to e =
     ap (λ (l : List ℕ). expression_at l) (sym from) ∙ e ∙ ap (λ (l : List ℕ). let o : Option (Code × List ℕ) = Some (code, l) in o) (sym to)
 

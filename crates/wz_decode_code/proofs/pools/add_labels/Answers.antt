@@ -7,12 +7,14 @@ returns-in_default-clause-bad c = λ bad. adds_none _ _ _ _ _ _ _ _ c.loop.invar
 
 pub add_label-requires : goal.add_label-requires
 add_label-requires c =
-    some_room _ _ _ _ _ _ _ _ c.args.builder.now.labels c.loop.builder.labels (length c.number.new.self.left) c.loop.invariant.adding (λ xs e. ap (λ b. b.labels) e) c.requires.room (u32_shorter _ _ _ c.in-Some.ensures.exact.0)
+    some_room _ _ _ _ _ _ _ _ c.args.builder.now.labels c.loop.builder.labels (length c.number.new.self.left) c.loop.invariant.adding
+    (λ xs e. ap (λ b. b.labels) e) c.requires.room (u32_shorter _ _ _ c.in-Some.ensures.exact.0)
 
 pub overflow_add-end : goal.overflow_add-end
 overflow_add-end c =
     let room : length c.loop.builder.labels < 2 ^ 32 - 1 =
-    some_room _ _ _ _ _ _ _ _ c.args.builder.now.labels c.loop.builder.labels (length c.number.new.self.left) c.loop.invariant.adding (λ xs e. ap (λ b. b.labels) e) c.requires.room (u32_shorter _ _ _ c.in-Some.ensures.exact.0) in
+    some_room _ _ _ _ _ _ _ _ c.args.builder.now.labels c.loop.builder.labels (length c.number.new.self.left) c.loop.invariant.adding
+    (λ xs e. ap (λ b. b.labels) e) c.requires.room (u32_shorter _ _ _ c.in-Some.ensures.exact.0) in
     omega (arith, room, c.in_ok-end.ensures.number)
 
 pub loop-preserved : goal.loop-preserved

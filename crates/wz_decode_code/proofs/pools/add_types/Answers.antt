@@ -7,12 +7,14 @@ returns-in_default-clause-bad c = λ bad. adds_none _ _ _ _ _ _ _ _ c.loop.invar
 
 pub add_type-requires : goal.add_type-requires
 add_type-requires c =
-    some_room _ _ _ _ _ _ _ _ c.args.builder.now.types c.loop.builder.types (length c.take_type.new.cursor.left) c.loop.invariant.adding (λ xs e. ap (λ b. b.types) e) c.requires.room (type_shorter _ _ _ c.in-Some.ensures.exact.0)
+    some_room _ _ _ _ _ _ _ _ c.args.builder.now.types c.loop.builder.types (length c.take_type.new.cursor.left) c.loop.invariant.adding
+    (λ xs e. ap (λ b. b.types) e) c.requires.room (type_shorter _ _ _ c.in-Some.ensures.exact.0)
 
 pub overflow_add-end : goal.overflow_add-end
 overflow_add-end c =
     let room : length c.loop.builder.types < 2 ^ 32 - 1 =
-    some_room _ _ _ _ _ _ _ _ c.args.builder.now.types c.loop.builder.types (length c.take_type.new.cursor.left) c.loop.invariant.adding (λ xs e. ap (λ b. b.types) e) c.requires.room (type_shorter _ _ _ c.in-Some.ensures.exact.0) in
+    some_room _ _ _ _ _ _ _ _ c.args.builder.now.types c.loop.builder.types (length c.take_type.new.cursor.left) c.loop.invariant.adding
+    (λ xs e. ap (λ b. b.types) e) c.requires.room (type_shorter _ _ _ c.in-Some.ensures.exact.0) in
     omega (arith, room, c.in_ok-end.ensures.number)
 
 pub loop-preserved : goal.loop-preserved

@@ -7,7 +7,8 @@ use Rattle.wz_bytes.proofs.NameLaws.{name_exact}
 use Rattle.wz_bytes.proofs.cursor.Cursor.name.Goals as goal
 
 pub returns-in_err-name-clause-none : goal.returns-in_err-name-clause-none
-returns-in_err-name-clause-none c = λ _. none_stands IsName (λ b. name_at b) name_exact c.args.self.now.left (ap (λ (p : Place). name_at p.left) (sym c.self.view_is) ∙ sym c.in_err-name.ensures)
+returns-in_err-name-clause-none c = λ _. none_stands IsName (λ b. name_at b) name_exact c.args.self.now.left
+    (ap (λ (p : Place). name_at p.left) (sym c.self.view_is) ∙ sym c.in_err-name.ensures)
 
 pub invariant_of-self : goal.invariant_of-self
 invariant_of-self c =
