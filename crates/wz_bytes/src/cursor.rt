@@ -58,7 +58,7 @@ impl<'a> Cursor<'a> {
         self.left
     }
 
-    /// GivesFront one byte.
+    /// Takes one byte.
     pub fn byte(&mut self) -> Option<u8>
         ensures found { IfSome result (λ b. Passes IsByte b self.old self.new) }
         ensures none { IsNone result → self.old.left ≡ [] }
@@ -70,7 +70,7 @@ impl<'a> Cursor<'a> {
         Some(*byte)
     }
 
-    /// GivesFront `n` bytes.
+    /// Takes `n` bytes.
     pub fn take(&mut self, n: usize) -> Option<&'a [u8]>
         ensures found { IfSome result (λ p. Passes (IsPiece n) p.now self.old self.new) }
         ensures none { IsNone result → length self.old.left < n }
@@ -82,7 +82,7 @@ impl<'a> Cursor<'a> {
         Some(piece)
     }
 
-    /// GivesFront an unsigned integer of 32 bits.
+    /// Takes an unsigned integer of 32 bits.
     pub fn number(&mut self) -> Option<u32>
         ensures found { IfSome result (λ n. Passes (λ t m. IsUnsigned 32 t m) n self.old self.new) }
         ensures none { IsNone result → NoFront (λ t m. IsUnsigned 32 t m) self.old.left }
@@ -94,7 +94,7 @@ impl<'a> Cursor<'a> {
         Some(value as u32)
     }
 
-    /// GivesFront a signed integer of 32 bits.
+    /// Takes a signed integer of 32 bits.
     pub fn signed_32(&mut self) -> Option<i32>
         ensures found { IfSome result (λ z. Passes (λ t y. IsSigned 32 t y) z self.old self.new) }
         ensures none { IsNone result → NoFront (λ t y. IsSigned 32 t y) self.old.left }
@@ -106,7 +106,7 @@ impl<'a> Cursor<'a> {
         Some(value as i32)
     }
 
-    /// GivesFront a signed integer of 33 bits, as types of blocks are spelled.
+    /// Takes a signed integer of 33 bits, as types of blocks are spelled.
     pub fn signed_33(&mut self) -> Option<i64>
         ensures found { IfSome result (λ z. Passes (λ t y. IsSigned 33 t y) z self.old self.new) }
         ensures none { IsNone result → NoFront (λ t y. IsSigned 33 t y) self.old.left }
@@ -118,7 +118,7 @@ impl<'a> Cursor<'a> {
         Some(value)
     }
 
-    /// GivesFront a signed integer of 64 bits.
+    /// Takes a signed integer of 64 bits.
     pub fn signed_64(&mut self) -> Option<i64>
         ensures found { IfSome result (λ z. Passes (λ t y. IsSigned 64 t y) z self.old self.new) }
         ensures none { IsNone result → NoFront (λ t y. IsSigned 64 t y) self.old.left }
@@ -130,7 +130,7 @@ impl<'a> Cursor<'a> {
         Some(value)
     }
 
-    /// GivesFront a name.
+    /// Takes a name.
     pub fn name(&mut self) -> Option<&'a str>
         ensures found { IfSome result (λ name. Passes IsName name.now self.old self.new) }
         ensures none { IsNone result → NoFront IsName self.old.left }

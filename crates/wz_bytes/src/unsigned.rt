@@ -9,8 +9,8 @@ ghost use Rattle.wz_bytes.specs.Shortest.{shortest_unsigned};
 use crate::slices::from_place;
 use std::alloc::AllocError;
 
-/// Reads the unsigned integer of `BITS` bits that begins at `at`, and gives it with the place behind
-/// it. A spelling may be longer than it has to be, up to the width's greatest length.
+/// Reads the unsigned integer of `BITS` bits that begins at `at`, and gives it with the place
+/// behind it. A spelling may be longer than it has to be, up to the width's greatest length.
 pub fn read_unsigned<const BITS: u32>(bytes: &[u8], at: usize) -> Option<(u64, usize)>
     requires { IsWidth BITS }
     ensures found { IfSome result (λ r. IsUnsigned BITS (slice_range bytes.now at r.1) r.0) }

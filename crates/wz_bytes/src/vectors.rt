@@ -41,7 +41,7 @@ pub trait Item<'a> {
     /// In front of these bytes stands no item.
     ghost bad: { List ℕ → Type 0 };
 
-    /// GivesFront one item. Where none is read, the cursor may be anywhere in its bytes.
+    /// Takes one item. Where none is read, the cursor may be anywhere in its bytes.
     fn take(alloc: Heap, cursor: &mut Cursor<'a>) -> Result<Self::Value, ItemFault>
         requires { length cursor.old.left < 2 ^ 32 - 1 }
         ensures ok { IfOk result (λ x. reads cursor.old.left x cursor.new.left) }
@@ -52,7 +52,8 @@ pub trait Item<'a> {
 /// How many items are reserved at once. More are found room for as they are read.
 const FIRST_ROOM: usize = 1024;
 
-/// GivesFront so many items, one behind the other. No more is reserved than the bytes left can hold.
+/// Takes so many items, one behind the other. No more is reserved than the bytes left can
+/// hold.
 pub fn take_items<'a, R: Item<'a>>(
     alloc: Heap,
     count: u32,
@@ -73,7 +74,7 @@ pub fn take_items<'a, R: Item<'a>>(
     Ok(items)
 }
 
-/// GivesFront a vector: its count, and so many items.
+/// Takes a vector: its count, and so many items.
 pub fn take_vector<'a, R: Item<'a>>(
     alloc: Heap,
     cursor: &mut Cursor<'a>,

@@ -35,7 +35,7 @@ fn kind_of(byte: u8) -> Option<RefKind>
     }
 }
 
-/// GivesFront a type of values, which is one byte.
+/// Takes a type of values, which is one byte.
 pub fn take_type(cursor: &mut Cursor<'_>) -> Option<ValType>
     ensures found { IfSome result (λ t. Passes IsValType t cursor.old cursor.new) }
     ensures none { IsNone result → NoFront IsValType cursor.old.left }
@@ -52,7 +52,7 @@ pub fn take_type(cursor: &mut Cursor<'_>) -> Option<ValType>
     Some(kind)
 }
 
-/// GivesFront a type of references, which is one byte.
+/// Takes a type of references, which is one byte.
 pub fn take_kind(cursor: &mut Cursor<'_>) -> Option<RefKind>
     ensures found { IfSome result (λ k. Passes IsRefKind k cursor.old cursor.new) }
     ensures none { IsNone result → NoFront IsRefKind cursor.old.left }
@@ -69,7 +69,7 @@ pub fn take_kind(cursor: &mut Cursor<'_>) -> Option<RefKind>
     Some(kind)
 }
 
-/// GivesFront the type of a block: nothing, one value, or a type's number, which is signed and not
+/// Takes the type of a block: nothing, one value, or a type's number, which is signed and not
 /// negative.
 #[tactic(auto, unfolding(crate::specs::Types::shape_at))]
 pub(crate) fn take_shape(cursor: &mut Cursor<'_>) -> Option<Shape>
