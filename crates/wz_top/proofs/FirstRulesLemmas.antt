@@ -51,7 +51,8 @@ or_right false b e = e
 none_same : (names : List (List ℕ)) (key : List ℕ) → list_any (same key) names ≡ false → All (λ name. name ≢ key) names
 none_same [] key e = All-nil _
 none_same (n ∷ names) key e =
-    All-cons (λ name. name ≢ key) n names (other_text n key (sym (or_left (same key n) (list_any (same key) names) e))) (none_same names key (or_right (same key n) (list_any (same key) names) e))
+    All-cons (λ name. name ≢ key) n names (other_text n key (sym (or_left (same key n) (list_any (same key) names) e)))
+    (none_same names key (or_right (same key n) (list_any (same key) names) e))
 
 some_same : (names : List (List ℕ)) (key : List ℕ) → list_any (same key) names ≡ true → All (λ name. name ≢ key) names → ⊥
 some_same [] key e h = absurd cc
@@ -81,7 +82,8 @@ seen_more seen now names key has absent updates = record {
   distinct = distinct_push names key.now has.distinct (none_same names key.now (sym (has.has key) ∙ absent));
 }
 
-pub seen_again : (seen : BTreeSet (Bor (List ℕ))) (names rest : List (List ℕ)) (key : Bor (List ℕ)) → HasSeen seen names → contains text_cmp seen key ≡ true → AreDistinct (names ++ key.now ∷ rest) → ⊥
+pub seen_again : (seen : BTreeSet (Bor (List ℕ))) (names rest : List (List ℕ)) (key : Bor (List ℕ)) → HasSeen seen names → contains text_cmp seen key ≡ true
+    → AreDistinct (names ++ key.now ∷ rest) → ⊥
 seen_again seen names rest key has there d = some_same names key.now (sym (has.has key) ∙ there) (distinct_before names key.now rest d)
 
 -- ---- in a list of all names

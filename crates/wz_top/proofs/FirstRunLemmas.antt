@@ -35,7 +35,8 @@ went_on is k d start s t so_far less e =
     ∙ ap (λ (n : ℕ). run (drop n is) t) (sym (add-one k))
 
 -- an instruction that finds no operand or no global
-pub stuck_at : (is : List Instruction) (k : ℕ) (d : Instruction) (start s : FirstState) → run is start ≡ run (drop k is) s → k < length is → effect (get_or is k d) s ≡ None → run is start ≡ None
+pub stuck_at : (is : List Instruction) (k : ℕ) (d : Instruction) (start s : FirstState) → run is start ≡ run (drop k is) s → k < length is
+    → effect (get_or is k d) s ≡ None → run is start ≡ None
 stuck_at is k d start s so_far less e =
     so_far ∙ ap (λ (l : List Instruction). run l s) (drop-cons is k d less) ∙ run-step (get_or is k d) (drop (suc k) is) s None e
 
@@ -43,14 +44,16 @@ stuck_at is k d start s so_far less e =
 pub ended : (is : List Instruction) (k : ℕ) (start s : FirstState) → run is start ≡ run (drop k is) s → length is ≤ k → run is start ≡ Some s
 ended is k start s so_far all = so_far ∙ ap (λ (l : List Instruction). run l s) (drop_of_length-le is all) ∙ run-nil s
 
-pub none_leaves : (is : List Instruction) (globals : List Global) → run is (record { globals = globals; operands = [] }) ≡ None → (reached : List Global) → Leaves is globals reached → ⊥
+pub none_leaves : (is : List Instruction) (globals : List Global) → run is (record { globals = globals; operands = [] }) ≡ None → (reached : List Global)
+    → Leaves is globals reached → ⊥
 none_leaves is globals none reached leaves = absurd cc
 
 abbrev operands_of : Option FirstState → List ℕ
 operands_of None = []
 operands_of (Some s) = s.operands
 
-pub others_leave : (is : List Instruction) (globals : List Global) (s : FirstState) → run is (record { globals = globals; operands = [] }) ≡ Some s → (s.operands ≡ [] → ⊥) → (reached : List Global) → Leaves is globals reached → ⊥
+pub others_leave : (is : List Instruction) (globals : List Global) (s : FirstState) → run is (record { globals = globals; operands = [] }) ≡ Some s
+    → (s.operands ≡ [] → ⊥) → (reached : List Global) → Leaves is globals reached → ⊥
 others_leave is globals s ended some reached leaves = some (ap (λ (o : Option FirstState). operands_of o) (sym ended ∙ leaves))
 
 on_true : (b : Bool) (P : Type 0) → OnTrue b P → b ≡ true → P

@@ -73,7 +73,8 @@ not_going bytes m e none = λ n reached first.
 goes_first : (bytes : List ℕ) (m : FirstModule) (reached : List Global) → module_at bytes ≡ Some m → IsGoing m reached → IsFirst bytes m reached
 goes_first bytes m reached e goes = record { spelled = module_found bytes m e; goes = goes }
 
-pub no_init : (bytes : List ℕ) (m : FirstModule) (reached : List Global) (o : Outcome) → module_at bytes ≡ Some m → IsGoing m reached → HasNoInit m → IsNoInit o → IsRefusedBy bytes o
+pub no_init : (bytes : List ℕ) (m : FirstModule) (reached : List Global) (o : Outcome) → module_at bytes ≡ Some m → IsGoing m reached → HasNoInit m → IsNoInit o
+    → IsRefusedBy bytes o
 unfolding IsVerdict
 no_init bytes m reached NoMemory e goes none is = tt
 no_init bytes m reached (Exports (fault.NoInit name)) e goes none is = (m, reached, goes_first bytes m reached e goes, none, is)
@@ -139,7 +140,8 @@ one_verdict bytes v w a b = by (kind_of bytes v a) (kind_of bytes w b) where
       absurd (not_both q.first (subst (λ (m : FirstModule). HasInit m) same.0 p.init) q.none)
   by (init p) (init q) =
       let same = one_first bytes p.first q.first p.reached q.reached p.is q.is in
-      p.made ∙ ap (λ (m : FirstModule). Gives (report m p.reached) (output m p.reached)) same.0 ∙ ap (λ (r : List Global). Gives (report q.first r) (output q.first r)) same.1 ∙ sym q.made
+      p.made ∙ ap (λ (m : FirstModule). Gives (report m p.reached) (output m p.reached)) same.0
+      ∙ ap (λ (r : List Global). Gives (report q.first r) (output q.first r)) same.1 ∙ sym q.made
 
 -- ---- exports, as they are read and as they are kept
 
@@ -188,7 +190,8 @@ present b P tells is = tells.0 is
 abbrev ReachedBy : Type 0
 ReachedBy = Result (Option (Vec Global Heap)) AllocError
 
-pub reached_by : (P Q : List Global → Type 0) (r : ReachedBy) → ((globals : List Global) → P globals → Q globals) → IfOk r (λ o. IfSome o (λ v. P v.items)) → IfOk r (λ o. IfSome o (λ v. Q v.items))
+pub reached_by : (P Q : List Global → Type 0) (r : ReachedBy) → ((globals : List Global) → P globals → Q globals) → IfOk r (λ o. IfSome o (λ v. P v.items))
+    → IfOk r (λ o. IfSome o (λ v. Q v.items))
 reached_by P Q (Ok (Some v)) f h = f v.items h
 reached_by P Q (Ok None) f h = tt
 reached_by P Q (Err e) f h = tt
