@@ -1,0 +1,4 @@
+pub mod SectionLaws
+pub mod OneModule
+pub mod StepLaws
+pub mod FrontLemmas
