@@ -1,5 +1,5 @@
 -- Bytes spell at most one module.
-use Rattle.std.proofs.Common.{◌≡◌, ℕ, List, [], ◌∷◌, ◌++◌, length, Option, Some, None, refl, sym, ap, subst, ◌∙◌}
+use Rattle.std.proofs.Common.{◌≡◌, ℕ, List, ◌++◌, length, Option, Some, None, sym, ap, subst, ◌∙◌}
 use Rattle.wz_bytes.specs.Reading.{Form}
 use Rattle.wz_bytes.specs.Forms.{items_at}
 use Rattle.wz_bytes.proofs.ReadingLemmas.{one_front}
@@ -32,7 +32,6 @@ use Rattle.wz_decode_sections.proofs.PayloadLaws.{one_payload}
 use Rattle.wz_decode.specs.Header.{header}
 use Rattle.wz_decode.specs.SectionForm.{IsSection, AreSections, section_at}
 use Rattle.wz_decode.specs.Parts.{HoldsList, HoldsNumber, HasParts}
-use Rattle.wz_decode.specs.Spelling.{Spells}
 use Rattle.wz_decode.specs.Laws.{OneModule, OneFrontOfSections}
 use Rattle.wz_decode.proofs.SectionLaws.{section_exact, one_list_of_sections}
 

@@ -1,10 +1,10 @@
 -- The reading of sections is exact, and bytes are one list of sections at most.
-use Rattle.std.proofs.Common.{◌≡◌, ℕ, ◌<◌, ◌≤◌, ◌+◌, suc, zero, List, [], ◌∷◌, ◌++◌, length, map, Option, Some, None, Bool, true, false, refl, sym, ap, subst, ◌∙◌, append_assoc, arith}
+use Rattle.std.proofs.Common.{◌≡◌, ℕ, ◌<◌, ◌≤◌, ◌+◌, List, [], ◌∷◌, ◌++◌, length, map, Some, Bool, true, false, refl, sym, ap, subst, ◌∙◌, append_assoc, arith}
 use Rattle.std.specs.Prelude.{◌≢◌, ◌==◌}
-use Rattle.std.proofs.lemmas.List.{append-nil, length-append, length-map, map-append}
-use Rattle.wz_bytes.specs.Reading.{Form, Reading, IsExact, NoFront, Front}
+use Rattle.std.proofs.lemmas.List.{append-nil, length-append, map-append}
+use Rattle.wz_bytes.specs.Reading.{Form, Reading, IsExact, Front}
 use Rattle.wz_bytes.specs.Forms.{IsByte, byte_at, Both, both_at, IsBytes, bytes_at, AreItems}
-use Rattle.wz_bytes.proofs.ReadingLemmas.{one_front, none_stands, some_is}
+use Rattle.wz_bytes.proofs.ReadingLemmas.{one_front}
 use Rattle.wz_bytes.proofs.FormLaws.{byte_exact, both_exact, made_exact, bytes_exact}
 use Rattle.wz_module.specs.declared.items.Section as code
 use Rattle.wz_module.specs.Sections.{Section}

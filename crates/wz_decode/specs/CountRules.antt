@@ -1,10 +1,9 @@
 -- Section 5.5.16 of the Core Specification: the rules between sections.
-use Rattle.std.specs.Prelude.{◌≡◌, ℕ, Bool, true, false, ◌||◌, length, IfSome, IsSome, IsTrue}
+use Rattle.std.specs.Prelude.{◌≡◌, Bool, true, false, ◌||◌, length, IfSome, IsSome, IsTrue}
 use Rattle.std.specs.List.{list_any}
 use Rattle.wz_code.specs.declared.instr.Instr.{Instr}
 use Rattle.wz_code.specs.declared.instr.Instr.TheVariants.{MemoryInit, DataDrop}
 use Rattle.wz_code.specs.Trees.{Leaf, Plain, TableBranch, TypedSelect, Code, End, Then, InBlock, InLoop, InIf}
-use Rattle.wz_module.specs.Functions.{BodyTree}
 use Rattle.wz_module.specs.Module.{Module}
 
 -- each own function has a body, and each body is a function's

@@ -1,7 +1,6 @@
 -- What holds of the spellings of modules, whatever reads or writes them.
 use Rattle.std.specs.Prelude.{◌≡◌, ℕ, List, length}
 use Rattle.wz_bytes.specs.Reading.{OneFront}
-use Rattle.wz_module.specs.Sections.{Section}
 use Rattle.wz_module.specs.Module.{Module}
 use Rattle.wz_decode.specs.SectionForm.{AreSections}
 use Rattle.wz_decode.specs.Spelling.{Spells}

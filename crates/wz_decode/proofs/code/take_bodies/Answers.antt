@@ -1,8 +1,8 @@
-use Rattle.std.proofs.Common.{◌≡◌, ◌<◌, ◌≤◌, refl, arith, map}
+use Rattle.std.proofs.Common.{◌<◌, refl, arith, map}
 use Rattle.std.proofs.lemmas.Result.{err_from_is_err_and}
 use Rattle.wz_module.specs.Views.{section_of, module_with}
 use Rattle.wz_module.specs.Functions.{body_tree_of}
-use Rattle.wz_decode.proofs.StepLaws.{bodies_taken, bodies_held, not_bodies, late_bodies}
+use Rattle.wz_decode.proofs.StepLaws.{bodies_taken, bodies_held, not_bodies}
 use Rattle.wz_decode.proofs.code.take_bodies.Goals as goal
 
 pub returns-in_err-bodies-clause-bad : goal.returns-in_err-bodies-clause-bad

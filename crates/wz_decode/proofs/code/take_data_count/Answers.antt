@@ -1,7 +1,7 @@
-use Rattle.std.proofs.Common.{◌≡◌, ◌<◌, ◌≤◌, refl, arith, map}
+use Rattle.std.proofs.Common.{◌<◌, refl, arith}
 use Rattle.std.proofs.lemmas.Result.{err_from_is_err_and}
 use Rattle.wz_module.specs.Views.{section_of, module_with}
-use Rattle.wz_decode.proofs.StepLaws.{data_count_taken, data_count_held, not_data_count, late_data_count}
+use Rattle.wz_decode.proofs.StepLaws.{data_count_taken, data_count_held, not_data_count}
 use Rattle.wz_decode.proofs.code.take_data_count.Goals as goal
 
 pub returns-in_err-data_count-clause-bad : goal.returns-in_err-data_count-clause-bad

@@ -1,7 +1,7 @@
-use Rattle.std.proofs.Common.{◌≡◌, ◌<◌, ◌≤◌, refl, arith, map}
+use Rattle.std.proofs.Common.{◌<◌, refl, arith, map}
 use Rattle.wz_module.specs.Views.{section_of, module_with}
 use Rattle.wz_module.specs.Views.{data_of}
-use Rattle.wz_decode.proofs.StepLaws.{datas_taken, datas_held, not_datas, late_datas}
+use Rattle.wz_decode.proofs.StepLaws.{datas_taken, not_datas}
 use Rattle.wz_decode.proofs.code.take_datas.Goals as goal
 
 pub returns-in_ok-push-in-Ok-clause-ok : goal.returns-in_ok-push-in-Ok-clause-ok

@@ -1,8 +1,8 @@
-use Rattle.std.proofs.Common.{◌≡◌, ◌<◌, ◌≤◌, refl, arith, map}
+use Rattle.std.proofs.Common.{◌<◌, refl, arith, map}
 use Rattle.std.proofs.lemmas.Result.{err_from_is_err_and}
 use Rattle.wz_module.specs.Views.{section_of, module_with}
 use Rattle.wz_module.specs.Views.{import_of}
-use Rattle.wz_decode.proofs.StepLaws.{imports_taken, imports_held, not_imports, late_imports}
+use Rattle.wz_decode.proofs.StepLaws.{imports_taken, imports_held, not_imports}
 use Rattle.wz_decode.proofs.declarations.take_imports.Goals as goal
 
 pub returns-in_err-imports-clause-bad : goal.returns-in_err-imports-clause-bad

@@ -1,7 +1,7 @@
-use Rattle.std.proofs.Common.{◌≡◌, ◌<◌, ◌≤◌, refl, arith, map}
+use Rattle.std.proofs.Common.{◌<◌, refl, arith}
 use Rattle.std.proofs.lemmas.Result.{err_from_is_err_and}
 use Rattle.wz_module.specs.Views.{section_of, module_with}
-use Rattle.wz_decode.proofs.StepLaws.{memories_taken, memories_held, not_memories, late_memories}
+use Rattle.wz_decode.proofs.StepLaws.{memories_taken, memories_held, not_memories}
 use Rattle.wz_decode.proofs.declarations.take_memories.Goals as goal
 
 pub returns-in_err-memories-clause-bad : goal.returns-in_err-memories-clause-bad

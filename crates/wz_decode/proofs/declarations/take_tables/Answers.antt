@@ -1,7 +1,7 @@
-use Rattle.std.proofs.Common.{◌≡◌, ◌<◌, ◌≤◌, refl, arith, map}
+use Rattle.std.proofs.Common.{◌<◌, refl, arith}
 use Rattle.std.proofs.lemmas.Result.{err_from_is_err_and}
 use Rattle.wz_module.specs.Views.{section_of, module_with}
-use Rattle.wz_decode.proofs.StepLaws.{tables_taken, tables_held, not_tables, late_tables}
+use Rattle.wz_decode.proofs.StepLaws.{tables_taken, tables_held, not_tables}
 use Rattle.wz_decode.proofs.declarations.take_tables.Goals as goal
 
 pub returns-in_err-tables-clause-bad : goal.returns-in_err-tables-clause-bad

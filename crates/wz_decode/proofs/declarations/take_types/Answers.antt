@@ -1,7 +1,7 @@
-use Rattle.std.proofs.Common.{◌≡◌, ◌<◌, ◌≤◌, refl, arith, map}
+use Rattle.std.proofs.Common.{◌<◌, refl, arith}
 use Rattle.std.proofs.lemmas.Result.{err_from_is_err_and}
 use Rattle.wz_module.specs.Views.{section_of, module_with}
-use Rattle.wz_decode.proofs.StepLaws.{types_taken, types_held, not_types, late_types}
+use Rattle.wz_decode.proofs.StepLaws.{types_taken, types_held, not_types}
 use Rattle.wz_decode.proofs.declarations.take_types.Goals as goal
 
 pub returns-in_err-types-clause-bad : goal.returns-in_err-types-clause-bad

@@ -1,8 +1,8 @@
-use Rattle.std.proofs.Common.{◌≡◌, ◌<◌, ◌≤◌, refl, arith, map}
+use Rattle.std.proofs.Common.{◌<◌, refl, arith, map}
 use Rattle.std.proofs.lemmas.Result.{err_from_is_err_and}
 use Rattle.wz_module.specs.Views.{section_of, module_with}
 use Rattle.wz_module.specs.Views.{elem_of}
-use Rattle.wz_decode.proofs.StepLaws.{elements_taken, elements_held, not_elements, late_elements}
+use Rattle.wz_decode.proofs.StepLaws.{elements_taken, elements_held, not_elements}
 use Rattle.wz_decode.proofs.definitions.take_elements.Goals as goal
 
 pub returns-in_err-elements-clause-bad : goal.returns-in_err-elements-clause-bad

@@ -1,8 +1,8 @@
-use Rattle.std.proofs.Common.{◌≡◌, ◌<◌, ◌≤◌, refl, arith, map}
+use Rattle.std.proofs.Common.{◌<◌, refl, arith, map}
 use Rattle.std.proofs.lemmas.Result.{err_from_is_err_and}
 use Rattle.wz_module.specs.Views.{section_of, module_with}
 use Rattle.wz_module.specs.Views.{export_of}
-use Rattle.wz_decode.proofs.StepLaws.{exports_taken, exports_held, not_exports, late_exports}
+use Rattle.wz_decode.proofs.StepLaws.{exports_taken, exports_held, not_exports}
 use Rattle.wz_decode.proofs.definitions.take_exports.Goals as goal
 
 pub returns-in_err-exports-clause-bad : goal.returns-in_err-exports-clause-bad

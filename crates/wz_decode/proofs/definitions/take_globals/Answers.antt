@@ -1,8 +1,8 @@
-use Rattle.std.proofs.Common.{◌≡◌, ◌<◌, ◌≤◌, refl, arith, map}
+use Rattle.std.proofs.Common.{◌<◌, refl, arith, map}
 use Rattle.std.proofs.lemmas.Result.{err_from_is_err_and}
 use Rattle.wz_module.specs.Views.{section_of, module_with}
 use Rattle.wz_module.specs.Views.{global_of}
-use Rattle.wz_decode.proofs.StepLaws.{globals_taken, globals_held, not_globals, late_globals}
+use Rattle.wz_decode.proofs.StepLaws.{globals_taken, globals_held, not_globals}
 use Rattle.wz_decode.proofs.definitions.take_globals.Goals as goal
 
 pub returns-in_err-globals-clause-bad : goal.returns-in_err-globals-clause-bad

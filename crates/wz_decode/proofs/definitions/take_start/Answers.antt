@@ -1,7 +1,7 @@
-use Rattle.std.proofs.Common.{◌≡◌, ◌<◌, ◌≤◌, refl, arith, map}
+use Rattle.std.proofs.Common.{◌<◌, refl, arith}
 use Rattle.std.proofs.lemmas.Result.{err_from_is_err_and}
 use Rattle.wz_module.specs.Views.{section_of, module_with}
-use Rattle.wz_decode.proofs.StepLaws.{start_taken, start_held, not_start, late_start}
+use Rattle.wz_decode.proofs.StepLaws.{start_taken, start_held, not_start}
 use Rattle.wz_decode.proofs.definitions.take_start.Goals as goal
 
 pub returns-in_err-start-clause-bad : goal.returns-in_err-start-clause-bad

@@ -1,8 +1,6 @@
-use Rattle.std.proofs.Common.{◌≡◌, ◌∙◌, sym, refl, subst, List, map, arith, rules, length-append, ◌∷◌, []}
-use Rattle.std.specs.List.{All}
+use Rattle.std.proofs.Common.{refl, map, arith, rules, length-append, ◌∷◌, []}
 use Rattle.std.proofs.lemmas.List.{map-append}
 use Rattle.std.proofs.lemmas.List.Elements.{All-push}
-use Rattle.wz_module.specs.Sections.{Section}
 use Rattle.wz_module.specs.Views.{section_of, module_with}
 use Rattle.wz_decode.specs.Contents.{IsInGrammar}
 use Rattle.wz_decode.proofs.SectionLaws.{section_shorter, one_more, not_empty, payload_within}

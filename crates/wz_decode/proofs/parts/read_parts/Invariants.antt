@@ -1,4 +1,4 @@
-use Rattle.std.proofs.Common.{◌≡◌, ◌≤◌, ◌+◌, length, map}
+use Rattle.std.proofs.Common.{◌≤◌, ◌+◌, length, map}
 use Rattle.std.specs.List.{All}
 use Rattle.wz_module.specs.Views.{section_of, module_with}
 use Rattle.wz_decode.specs.Contents.{IsInGrammar}

@@ -3,7 +3,7 @@ use Rattle.wz_bytes.specs.Reading.{Front, NoFront}
 use Rattle.wz_bytes.specs.Name.{IsName}
 use Rattle.wz_bytes.specs.Place.{Place}
 use Rattle.wz_module.specs.Views.{section_of, module_with}
-use Rattle.wz_decode.proofs.StepLaws.{custom_taken, custom_held, not_custom}
+use Rattle.wz_decode.proofs.StepLaws.{custom_taken, not_custom}
 use Rattle.wz_decode.proofs.parts.take_custom.Goals as goal
 
 pub returns-clause-ok : goal.returns-clause-ok
