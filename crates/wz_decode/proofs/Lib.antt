@@ -2,3 +2,4 @@ pub mod SectionLaws
 pub mod OneModule
 pub mod StepLaws
 pub mod FrontLemmas
+pub mod DataLemmas
