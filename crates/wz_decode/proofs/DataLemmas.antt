@@ -1,5 +1,5 @@
 -- Code names a data segment where an instruction of one of its blocks does.
-use Rattle.std.proofs.Common.{◌≡◌, ℕ, zero, suc, ◌+◌, ◌≤◌, ◌<◌, List, [], ◌∷◌, length, Option, Some, None, Bool, true, false, refl, sym, ap, subst, ◌∙◌, arith, inl, inr}
+use Rattle.std.proofs.Common.{◌≡◌, ℕ, zero, suc, ◌+◌, ◌≤◌, ◌<◌, List, [], ◌∷◌, length, map, take, Option, Some, None, Bool, true, false, refl, sym, ap, subst, ◌∙◌, arith, inl, inr}
 use Rattle.std.specs.Prelude.{◌≢◌, ◌||◌, ◌⊎◌, nat_lt, ◌==◌, if◌then◌else◌, unwrap_or, slice_get}
 use Rattle.std.specs.List.{list_any}
 use Rattle.std.proofs.lemmas.Bool.{cases_Bool, eqb-true, eq-eqb, ne_eqb, lt-ltb}
@@ -10,6 +10,7 @@ use Rattle.wz_code.specs.BodyParts.{Blocks, block_at, BodyParts}
 use Rattle.wz_code.specs.Trees.{Leaf, leaf_of, Code, End, Then, arm_of, headed, expand, tree_by, tree_in, tree_of}
 use Rattle.wz_code.specs.BlockRule.{Every, named, arm_named, times, namings, all_namings, NamesRise, EachOnce, IsBody}
 use Rattle.wz_code.proofs.LawLemmas.{tree_of_block}
+use Rattle.wz_module.specs.Functions.{body_tree_of}
 use Rattle.wz_decode.specs.CountRules.{names_data, leaf_names_data, code_names_data}
 
 or_left : (a b : Bool) → a ≡ true → (a || b) ≡ true
@@ -174,3 +175,47 @@ block_in_tree body m is within e =
     let rise = is.rule.names_rise in
     let tree : code_names_data (tree_of body m) ≡ true = rw (tree_of_block body m rise) (block_names body.labels body.types (λ n. tree_of body n) (block_at body.blocks m) e) in
     climb (m + 1) m body rise is.rule.once (omega arith) within tree
+
+-- ---- all blocks of a body, and all bodies
+
+some_true : (blocks : Blocks) → list_any (λ block. list_any names_data block) blocks ≡ true → (m : ℕ) × (m < length blocks) × (list_any names_data (block_at blocks m) ≡ true)
+some_true [] e = absurd cc
+some_true (block ∷ blocks) e = elim (or_cases _ _ e) [
+  | inl here ↦ (0, omega arith, here)
+  | inr there ↦ let m = some_true blocks there in (suc m.0, omega (arith, m.1), m.2)
+]
+
+from_block : (blocks : Blocks) (m : ℕ) → list_any names_data (block_at blocks m) ≡ true → list_any (λ block. list_any names_data block) blocks ≡ true
+from_block [] zero e = absurd cc
+from_block [] (suc m) e = absurd cc
+from_block (block ∷ blocks) zero e = or_left _ _ e
+from_block (block ∷ blocks) (suc m) e = or_right _ _ (from_block blocks m e)
+
+pub blocks_are_tree : (body : BodyParts) → IsBody body → list_any (λ block. list_any names_data block) body.blocks ≡ code_names_data (tree_of body 0)
+blocks_are_tree body is = elim (cases_Bool (list_any (λ block. list_any names_data block) body.blocks)) [
+  | inl some ↦ let m = some_true body.blocks some in some ∙ sym (block_in_tree body m.0 is m.1 m.2)
+  | inr none ↦ elim (cases_Bool (code_names_data (tree_of body 0))) [
+    | inl tree ↦ let m = some_block body tree in let f : true ≡ false = sym (from_block body.blocks m.0 m.1) ∙ none in absurd cc
+    | inr no_tree ↦ none ∙ sym no_tree
+  ]
+]
+
+pub bodies_are_trees : (bodies : List BodyParts) → list_any (λ body. code_names_data (tree_of body 0)) bodies ≡ list_any (λ body. code_names_data body.1) (map body_tree_of bodies)
+bodies_are_trees [] = refl
+bodies_are_trees (body ∷ bodies) = rw (bodies_are_trees bodies) refl
+
+or_assoc : (a b c : Bool) → (a || (b || c)) ≡ ((a || b) || c)
+or_assoc true b c = refl
+or_assoc false b c = refl
+
+or_none : (a : Bool) → (a || false) ≡ a
+or_none true = refl
+or_none false = refl
+
+pub blocks_more : (blocks : Blocks) (i : ℕ) → i < length blocks
+    → list_any (λ block. list_any names_data block) (take (i + 1) blocks) ≡ (list_any (λ block. list_any names_data block) (take i blocks) || list_any names_data (block_at blocks i))
+blocks_more [] i h = absurd (omega (arith, h))
+blocks_more (block ∷ blocks) zero h = or_none (list_any names_data block)
+blocks_more (block ∷ blocks) (suc i) h =
+    let more : suc i + 1 ≡ suc (i + 1) = omega arith in
+    rw more (ap (λ (b : Bool). list_any names_data block || b) (blocks_more blocks i (omega (arith, h))) ∙ or_assoc (list_any names_data block) _ _)

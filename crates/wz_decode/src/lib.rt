@@ -2,6 +2,7 @@
 #![tactic(auto)]
 
 mod code;
+mod counts;
 mod declarations;
 mod definitions;
 mod fault;
