@@ -1,5 +1,5 @@
 -- The readings of the items of sections are exact.
-use Rattle.std.proofs.Common.{◌≡◌, ℕ, List, refl, inl, inr}
+use Rattle.std.proofs.Common.{ℕ, List, refl, inl, inr}
 use Rattle.std.specs.Prelude.{◌==◌}
 use Rattle.wz_bytes.specs.Reading.{IsExact}
 use Rattle.wz_bytes.specs.Name.{IsName, name_at}

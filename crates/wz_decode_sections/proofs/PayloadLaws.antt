@@ -1,5 +1,5 @@
 -- A payload spells at most one list of items.
-use Rattle.std.proofs.Common.{◌≡◌, ℕ, List, Some, sym, ◌∙◌}
+use Rattle.std.proofs.Common.{sym, ◌∙◌}
 use Rattle.wz_bytes.specs.Reading.{Form, Reading, IsExact}
 use Rattle.wz_bytes.specs.Forms.{IsVector, vector_at}
 use Rattle.wz_bytes.proofs.ReadingLemmas.{some_is}

@@ -1,5 +1,5 @@
 -- Productions that a tag decides, as rows of a reading.
-use Rattle.std.proofs.Common.{◌≡◌, ℕ, List, ◌++◌, Option, Some, None, Bool, true, false, cond, refl, ◌∙◌, ◌⊎◌, inl, inr}
+use Rattle.std.proofs.Common.{◌≡◌, ℕ, List, ◌++◌, Option, Some, None, Bool, true, cond, refl, ◌∙◌, inl, inr}
 use Rattle.std.specs.Prelude.{nat_eq}
 use Rattle.wz_bytes.specs.Reading.{Form, Reading, IsExact}
 use Rattle.wz_bytes.specs.Forms.{made_at}

@@ -1,5 +1,5 @@
 -- What the readers of items use of the exactness of readings.
-use Rattle.std.proofs.Common.{◌≡◌, ℕ, ◌<◌, ◌≤◌, List, [], ◌++◌, length, Option, Some, None, refl, sym, ap, ◌∙◌, arith}
+use Rattle.std.proofs.Common.{◌≡◌, ℕ, ◌≤◌, List, length, Option, Some, None, refl, sym, ap, arith}
 use Rattle.std.proofs.lemmas.List.{length-append}
 use Rattle.wz_bytes.specs.Reading.{Form, Reading, IsExact}
 use Rattle.wz_bytes.specs.Forms.{all_at, bytes_at}

@@ -1,5 +1,5 @@
 -- The readings of element and data segments are exact.
-use Rattle.std.proofs.Common.{◌≡◌, ℕ, List, [], ◌∷◌, ◌++◌, map, Some, true, refl, ap, subst, inl, inr}
+use Rattle.std.proofs.Common.{◌≡◌, ℕ, List, [], ◌∷◌, map, Some, refl, ap, subst, inl, inr}
 use Rattle.std.specs.Prelude.{◌==◌}
 use Rattle.std.proofs.lemmas.Bool.{eqb-true}
 use Rattle.wz_bytes.specs.Reading.{Form, Reading, Front, IsExact}
@@ -8,8 +8,7 @@ use Rattle.wz_bytes.proofs.ReadingLemmas.{guarded, some_is}
 use Rattle.wz_bytes.proofs.FormLaws.{both_exact, made_exact, vector_exact, bytes_exact}
 use Rattle.wz_bytes.proofs.SwitchLaws.{HasRow, switch_exact}
 use Rattle.wz_types.specs.declared.types.RefKind.{RefKind}
-use Rattle.wz_types.specs.declared.types.RefKind.TheVariants as kind
-use Rattle.wz_module.specs.Elements.{PassiveElem, ActiveElem, DeclarativeElem, Elem, function_reference}
+use Rattle.wz_module.specs.Elements.{PassiveElem, DeclarativeElem, Elem, function_reference}
 use Rattle.wz_module.specs.Datas.{PassiveData, ActiveData, DataSegment}
 use Rattle.wz_decode_code.specs.Types.{IsRefKind, kind_at}
 use Rattle.wz_decode_code.specs.Instructions.{IsU32}
@@ -20,7 +19,7 @@ use Rattle.wz_decode_code.proofs.TypeLaws.{kind_exact}
 use Rattle.wz_decode_code.proofs.CodeLaws.{expression_exact}
 use Rattle.wz_decode_sections.specs.Productions.{IsFlag}
 use Rattle.wz_decode_sections.specs.Offsets.{AtOffset, offset_at, AtPlace, place_at}
-use Rattle.wz_decode_sections.specs.ElementSection.{IsElemKind, elem_kind_at, AreFunctions, functions_at, AreExpressions, expressions_at, References, IsFunctionList, function_list_at, IsExpressionList, expression_list_at, elem_from, elem_in_first, elem_in_table, IsElem, elem_rows, elem_at}
+use Rattle.wz_decode_sections.specs.ElementSection.{IsElemKind, elem_kind_at, AreFunctions, functions_at, AreExpressions, expressions_at, IsFunctionList, function_list_at, IsExpressionList, expression_list_at, elem_from, elem_in_first, elem_in_table, IsElem, elem_rows, elem_at}
 use Rattle.wz_decode_sections.specs.DataSection.{data_from, IsData, data_rows, data_at}
 use Rattle.wz_decode_sections.proofs.ProductionLaws.{FindsBehind, row_or, no_row, row_found, row_again}
 use Rattle.wz_decode_sections.proofs.TypeFormLaws.{u32_exact}

@@ -7,8 +7,7 @@ use Rattle.wz_bytes.specs.Forms.{IsByte, byte_at, Both, both_at}
 use Rattle.wz_bytes.proofs.ReadingLemmas.{chosen, guarded, some_is}
 use Rattle.wz_bytes.proofs.UnsignedLaws.{unsigned_exact}
 use Rattle.wz_bytes.proofs.FormLaws.{byte_exact, both_exact, made_exact, vector_exact}
-use Rattle.wz_bytes.proofs.SwitchLaws.{BehindTag, HasRow, switch_exact}
-use Rattle.wz_types.specs.FunctionType.{FunctionType}
+use Rattle.wz_bytes.proofs.SwitchLaws.{HasRow, switch_exact}
 use Rattle.wz_types.specs.declared.types.Limits.{Limits}
 use Rattle.wz_decode_code.specs.Types.{IsValType, type_at, IsRefKind, kind_at}
 use Rattle.wz_decode_code.specs.Instructions.{IsU32, Two}

@@ -2,7 +2,6 @@
 use Rattle.std.specs.Prelude.{◌⊎◌, ℕ, List, None, if◌then◌else◌, ◌==◌}
 use Rattle.wz_bytes.specs.Reading.{Form, Reading}
 use Rattle.wz_bytes.specs.Forms.{made_at, IsVector, IsBytes, bytes_at, switch_at}
-use Rattle.wz_code.specs.Trees.{Code}
 use Rattle.wz_module.specs.Datas.{DataMode, PassiveData, ActiveData, DataSegment}
 use Rattle.wz_decode_code.specs.InstrReading.{u32_at}
 use Rattle.wz_decode_sections.specs.Productions.{Production, IsFlag}

@@ -7,7 +7,6 @@ use Rattle.wz_types.specs.declared.types.RefKind.TheVariants as kind
 use Rattle.wz_code.specs.Trees.{Code}
 use Rattle.wz_module.specs.Elements.{ElemMode, PassiveElem, ActiveElem, DeclarativeElem, Elem, function_reference}
 use Rattle.wz_decode_code.specs.Types.{IsRefKind, kind_at}
-use Rattle.wz_decode_code.specs.Instructions.{IsU32}
 use Rattle.wz_decode_code.specs.InstrReading.{u32_at}
 use Rattle.wz_decode_code.specs.Code.{IsExpression}
 use Rattle.wz_decode_code.specs.Reading.{expression_at}

@@ -1,6 +1,6 @@
 -- What holds of the payloads of sections (section 5.5 of the Core Specification), whatever reads or writes them.
 use Rattle.std.specs.Prelude.{◌≡◌, ℕ, List, ◌++◌, length}
-use Rattle.wz_bytes.specs.Reading.{Form, Front}
+use Rattle.wz_bytes.specs.Reading.{Form}
 use Rattle.wz_bytes.specs.Forms.{AreItems}
 use Rattle.wz_module.specs.Elements.{Elem}
 use Rattle.wz_module.specs.declared.items.Span.{Span}

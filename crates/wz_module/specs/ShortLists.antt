@@ -1,12 +1,8 @@
 -- Section 2.5.1 of the Core Specification: everything in a module is named by a number of 32 bits.
-use Rattle.std.specs.Prelude.{ℕ, ◌+◌, ◌-◌, ◌^◌, ◌<◌, List, length}
+use Rattle.std.specs.Prelude.{◌+◌, ◌-◌, ◌^◌, ◌<◌, List, length}
 use Rattle.std.specs.List.{All}
 use Rattle.wz_types.specs.FunctionType.{FunctionType}
-use Rattle.wz_module.specs.Sections.{Section}
 use Rattle.wz_module.specs.Imports.{Import}
-use Rattle.wz_module.specs.Exports.{Export}
-use Rattle.wz_module.specs.Elements.{Elem}
-use Rattle.wz_module.specs.Datas.{DataSegment}
 use Rattle.wz_module.specs.Module.{Module}
 
 -- the places of a list, and its length, are numbers of 32 bits

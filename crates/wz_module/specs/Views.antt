@@ -1,5 +1,5 @@
 -- What the structs of items are in the sense of section 2.5 of the Core Specification.
-use Rattle.std.specs.Prelude.{ℕ, List, map}
+use Rattle.std.specs.Prelude.{List, map}
 use Rattle.wz_code.specs.BodyParts.{BodyParts}
 use Rattle.wz_code.specs.Trees.{Code, tree_of}
 use Rattle.wz_module.specs.Sections.{Section}

@@ -1,4 +1,4 @@
-use Rattle.std.proofs.Common.{◌≡◌, ℕ, List, subst}
+use Rattle.std.proofs.Common.{◌≡◌, List, subst}
 use Rattle.std.proofs.lemmas.List.{map-id}
 use Rattle.wz_bytes.specs.Forms.{IsVector}
 use Rattle.wz_decode_sections.specs.Limits.{IsMemType, mem_type_at}

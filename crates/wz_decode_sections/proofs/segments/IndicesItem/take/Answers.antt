@@ -1,4 +1,3 @@
-use Rattle.std.proofs.Common.{sym}
 use Rattle.wz_bytes.proofs.VectorLaws.{no_longer}
 use Rattle.wz_decode_code.specs.Instructions.{IsU32}
 use Rattle.wz_decode_code.specs.InstrReading.{u32_at}

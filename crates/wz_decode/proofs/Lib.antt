@@ -1,0 +1,5 @@
+pub mod SectionLaws
+pub mod OneModule
+pub mod StepLaws
+pub mod FrontLemmas
+pub mod DataLemmas

@@ -1,0 +1,19 @@
+use Rattle.std.proofs.Common.{◌<◌, refl, arith, map}
+use Rattle.std.proofs.lemmas.Result.{err_from_is_err_and}
+use Rattle.wz_module.specs.Views.{section_of, module_with}
+use Rattle.wz_module.specs.Functions.{body_tree_of}
+use Rattle.wz_decode.proofs.StepLaws.{bodies_taken, bodies_held, not_bodies}
+use Rattle.wz_decode.proofs.code.take_bodies.Goals as goal
+
+pub returns-in_err-bodies-clause-bad : goal.returns-in_err-bodies-clause-bad
+returns-in_err-bodies-clause-bad c =
+    let p = err_from_is_err_and c.from_residual.result c.from_residual.ensures.1 in
+    λ bad. not_bodies c.args.last (section_of c.args.section) c.requires.id (c.in_err-bodies.ensures.bad (cc (p.1, p.2)))
+
+pub returns-clause-ok : goal.returns-clause-ok
+returns-clause-ok c =
+    let less : c.args.last < 11 = omega arith in
+    bodies_taken (module_with c.args.parts.now) c.args.last c.args.parts.now.sections.items _ c.args.section (map body_tree_of c.in_ok-bodies.bodies.items) refl c.in_ok-push.ensures.items c.requires.id c.requires.front less c.in_ok-bodies.ensures.found
+
+pub returns-clause-contents : goal.returns-clause-contents
+returns-clause-contents c = bodies_held (section_of c.args.section) (map body_tree_of c.in_ok-bodies.bodies.items) c.requires.id c.in_ok-bodies.ensures.found

@@ -1,0 +1,18 @@
+use Rattle.std.proofs.Common.{◌<◌, refl, arith}
+use Rattle.std.proofs.lemmas.Result.{err_from_is_err_and}
+use Rattle.wz_module.specs.Views.{section_of, module_with}
+use Rattle.wz_decode.proofs.StepLaws.{data_count_taken, data_count_held, not_data_count}
+use Rattle.wz_decode.proofs.code.take_data_count.Goals as goal
+
+pub returns-in_err-data_count-clause-bad : goal.returns-in_err-data_count-clause-bad
+returns-in_err-data_count-clause-bad c =
+    let p = err_from_is_err_and c.from_residual.result c.from_residual.ensures.1 in
+    λ bad. not_data_count c.args.last (section_of c.args.section) c.requires.id (c.in_err-data_count.ensures.bad (cc (p.1, p.2)))
+
+pub returns-clause-ok : goal.returns-clause-ok
+returns-clause-ok c =
+    let less : c.args.last < 10 = omega arith in
+    data_count_taken (module_with c.args.parts.now) c.args.last c.args.parts.now.sections.items _ c.args.section c.in_ok-data_count.data_count refl c.in_ok-push.ensures.items c.requires.id c.requires.front less c.in_ok-data_count.ensures.found
+
+pub returns-clause-contents : goal.returns-clause-contents
+returns-clause-contents c = data_count_held (section_of c.args.section) c.in_ok-data_count.data_count c.requires.id c.in_ok-data_count.ensures.found

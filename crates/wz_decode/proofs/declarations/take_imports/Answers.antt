@@ -1,0 +1,19 @@
+use Rattle.std.proofs.Common.{◌<◌, refl, arith, map}
+use Rattle.std.proofs.lemmas.Result.{err_from_is_err_and}
+use Rattle.wz_module.specs.Views.{section_of, module_with}
+use Rattle.wz_module.specs.Views.{import_of}
+use Rattle.wz_decode.proofs.StepLaws.{imports_taken, imports_held, not_imports}
+use Rattle.wz_decode.proofs.declarations.take_imports.Goals as goal
+
+pub returns-in_err-imports-clause-bad : goal.returns-in_err-imports-clause-bad
+returns-in_err-imports-clause-bad c =
+    let p = err_from_is_err_and c.from_residual.result c.from_residual.ensures.1 in
+    λ bad. not_imports c.args.last (section_of c.args.section) c.requires.id (c.in_err-imports.ensures.bad (cc (p.1, p.2)))
+
+pub returns-clause-ok : goal.returns-clause-ok
+returns-clause-ok c =
+    let less : c.args.last < 2 = omega arith in
+    imports_taken (module_with c.args.parts.now) c.args.last c.args.parts.now.sections.items _ c.args.section (map import_of c.in_ok-imports.imports.items) refl c.in_ok-push.ensures.items c.requires.id c.requires.front less c.in_ok-imports.ensures.found
+
+pub returns-clause-contents : goal.returns-clause-contents
+returns-clause-contents c = imports_held (section_of c.args.section) (map import_of c.in_ok-imports.imports.items) c.requires.id c.in_ok-imports.ensures.found

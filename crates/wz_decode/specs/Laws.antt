@@ -1,0 +1,14 @@
+-- What holds of the spellings of modules, whatever reads or writes them.
+use Rattle.std.specs.Prelude.{◌≡◌, ℕ, List, length}
+use Rattle.wz_bytes.specs.Reading.{OneFront}
+use Rattle.wz_module.specs.Module.{Module}
+use Rattle.wz_decode.specs.SectionForm.{AreSections}
+use Rattle.wz_decode.specs.Spelling.{Spells}
+
+-- bytes spell at most one module
+abbrev pub OneModule : Type 0
+OneModule = (bytes : List ℕ) (m n : Module) → Spells bytes m → Spells bytes n → m ≡ n
+
+-- bytes have at most one front of so many sections
+abbrev pub OneFrontOfSections : Type 0
+OneFrontOfSections = (n : ℕ) → OneFront (λ text sections. AreSections text sections × (length sections ≡ n))
