@@ -14,8 +14,8 @@ use Rattle.wz_bytes.proofs.UnsignedLaws.{unsigned_exact}
 use Rattle.wz_bytes.proofs.SignedLaws.{signed_exact}
 use Rattle.wz_bytes.proofs.NameLaws.{name_exact}
 use Rattle.wz_bytes.proofs.FormLaws.{both_exact, tagged_exact, made_exact, sized_exact, vector_exact}
-use Rattle.wz_top.specs.FirstGrammar.{IsNumber, IsEnd, IsIndex, IsInteger, WithText, IsMutability, IsGlobal, IsFirstTarget, IsFirstExport, IsInstruction, IsFirstExpression, IsOneType, IsOneFunction, IsOneBody, IsSection, AreSections, first_global_of, first_export_of, first_module_of}
-use Rattle.wz_top.specs.FirstReading.{number_at, end_at, first_index_at, integer_at, with_text_at, mutability_at, global_at, target_at, first_export_at, instruction_at, instructions_at, first_expression_at, end_or, one_type_at, one_function_at, first_entry_at, one_body_at, section_at, sections_at}
+use Rattle.wz_top.specs.FirstGrammar.{IsNumber, IsEnd, IsIndex, IsInteger, WithText, IsMutability, IsGlobal, IsFirstTarget, IsFirstExport, IsInstruction, IsFirstExpression, IsOneType, IsOneFunction, IsOneBody, IsFirstSection, AreFirstSections, first_global_of, first_export_of, first_module_of}
+use Rattle.wz_top.specs.FirstReading.{number_at, end_at, first_index_at, integer_at, with_text_at, mutability_at, global_at, target_at, first_export_at, instruction_at, instructions_at, first_expression_at, end_or, one_type_at, one_function_at, first_entry_at, one_body_at, first_section_at, sections_at}
 use Rattle.wz_top.specs.declared.first_grammar.Target.{Target}
 use Rattle.wz_top.specs.declared.first_grammar.Target.TheVariants as target
 use Rattle.wz_top.specs.declared.first_grammar.Instruction.{Instruction}
@@ -254,10 +254,10 @@ one_body_exact : IsExact IsOneBody one_body_at
 one_body_exact =
     made_exact (λ x. x.1) _ _ (both_exact (IsNumber 1) (Sized IsEntry) (number_at 1) (sized_at first_entry_at) (number_exact 1) (sized_exact IsEntry first_entry_at entry_exact))
 
-section_exact : {X : Type 0} (id : ℕ) (S : List ℕ → X → Type 0) (p : List ℕ → Option (X × List ℕ)) → IsExact S p → IsExact (IsSection id S) (section_at id p)
+section_exact : {X : Type 0} (id : ℕ) (S : List ℕ → X → Type 0) (p : List ℕ → Option (X × List ℕ)) → IsExact S p → IsExact (IsFirstSection id S) (first_section_at id p)
 section_exact id S p exact = tagged_exact id (Sized S) (sized_at p) (sized_exact S p exact)
 
-pub sections_exact : IsExact AreSections sections_at
+pub sections_exact : IsExact AreFirstSections sections_at
 sections_exact =
     let types = section_exact 1 (WithText IsOneType) (with_text_at one_type_at) (with_text_exact IsOneType one_type_at one_type_exact) in
     let functions = section_exact 3 (WithText IsOneFunction) (with_text_at one_function_at) (with_text_exact IsOneFunction one_function_at one_function_exact) in

@@ -11,7 +11,7 @@ use Rattle.std.proofs.lemmas.List.Elements.{All-nil, All-cons, All-head, All-tai
 use Rattle.std.proofs.Math.ListN.{length-map}
 use Rattle.wz_bytes.proofs.FormLaws.{all_found, all_again}
 use Rattle.wz_bytes.proofs.ReadingLemmas.{some_is, guarded, none_given}
-use Rattle.wz_top.specs.FirstGrammar.{FirstModule, FirstExport, Spells, AreSections, header}
+use Rattle.wz_top.specs.FirstGrammar.{FirstModule, FirstExport, SpellsFirst, AreFirstSections, first_header}
 use Rattle.wz_top.specs.FirstReading.{module_at, sections_at}
 use Rattle.wz_top.specs.FirstRun.{FirstState, IsFirst, IsGoing, Leaves, IsTargetOk, AreDistinct, initialize}
 use Rattle.wz_top.specs.FirstViews.{export_view, module_view}
@@ -28,23 +28,23 @@ use Rattle.wz_top.proofs.FirstLaws.{sections_exact}
 
 -- ---- one module
 
-pub module_found : (bytes : List ℕ) (m : FirstModule) → module_at bytes ≡ Some m → Spells bytes m
+pub module_found : (bytes : List ℕ) (m : FirstModule) → module_at bytes ≡ Some m → SpellsFirst bytes m
 module_found bytes m e =
-    let g = guarded (starts_with nat_eq bytes header) _ _ e in
-    let front : header ≡ take 8 bytes = same_text header (take 8 bytes) (sym g.0) in
+    let g = guarded (starts_with nat_eq bytes first_header) _ _ e in
+    let front : first_header ≡ take 8 bytes = same_text first_header (take 8 bytes) (sym g.0) in
     record {
       sections = drop 8 bytes;
       whole = sym (take-append-drop 8 bytes) ∙ ap (λ (t : List ℕ). t ++ drop 8 bytes) (sym front);
-      spelled = all_found AreSections sections_at sections_exact (drop 8 bytes) m g.1;
+      spelled = all_found AreFirstSections sections_at sections_exact (drop 8 bytes) m g.1;
     }
 
-pub module_again : (bytes : List ℕ) (m : FirstModule) → Spells bytes m → module_at bytes ≡ Some m
-module_again bytes m h = ap (λ (b : List ℕ). module_at b) h.whole ∙ all_again AreSections sections_at sections_exact h.sections m h.spelled
+pub module_again : (bytes : List ℕ) (m : FirstModule) → SpellsFirst bytes m → module_at bytes ≡ Some m
+module_again bytes m h = ap (λ (b : List ℕ). module_at b) h.whole ∙ all_again AreFirstSections sections_at sections_exact h.sections m h.spelled
 
 abbrev given : {A : Type 0} → A → Option A
 given x = Some x
 
-one_module : (bytes : List ℕ) (a b : FirstModule) → Spells bytes a → Spells bytes b → a ≡ b
+one_module : (bytes : List ℕ) (a b : FirstModule) → SpellsFirst bytes a → SpellsFirst bytes b → a ≡ b
 one_module bytes a b p q = some_is a b (sym (module_again bytes a p) ∙ module_again bytes b q)
 
 state_is : (a b : FirstState) → given a ≡ given b → a ≡ b

@@ -99,11 +99,11 @@ IsOneBody text instructions =
 
 -- ---- the whole
 
-abbrev pub IsSection : {X : Type 0} → ℕ → (List ℕ → X → Type 0) → List ℕ → X → Type 0
-IsSection id Spells text x = Tagged id (Sized Spells) text x
+abbrev pub IsFirstSection : {X : Type 0} → ℕ → (List ℕ → X → Type 0) → List ℕ → X → Type 0
+IsFirstSection id Spells text x = Tagged id (Sized Spells) text x
 
-abbrev pub header : List ℕ
-header = 0x00 ∷ 0x61 ∷ 0x73 ∷ 0x6D ∷ 0x01 ∷ 0x00 ∷ 0x00 ∷ 0x00 ∷ []
+abbrev pub first_header : List ℕ
+first_header = 0x00 ∷ 0x61 ∷ 0x73 ∷ 0x6D ∷ 0x01 ∷ 0x00 ∷ 0x00 ∷ 0x00 ∷ []
 
 abbrev pub first_module_of : (List ℕ × Unit {0}) × ((List ℕ × Unit {0}) × (List Global × (List FirstExport × (List ℕ × List Instruction)))) → FirstModule
 first_module_of x = record {
@@ -116,17 +116,17 @@ first_module_of x = record {
 }
 
 -- the five sections, in this order
-abbrev pub AreSections : List ℕ → FirstModule → Type 0
-AreSections text first =
+abbrev pub AreFirstSections : List ℕ → FirstModule → Type 0
+AreFirstSections text first =
     Made first_module_of
-    (Both (IsSection 1 (WithText IsOneType))
-    (Both (IsSection 3 (WithText IsOneFunction))
-    (Both (IsSection 6 (IsVector IsGlobal))
-    (Both (IsSection 7 (IsVector IsFirstExport))
-    (IsSection 10 (WithText IsOneBody)))))) text first
+    (Both (IsFirstSection 1 (WithText IsOneType))
+    (Both (IsFirstSection 3 (WithText IsOneFunction))
+    (Both (IsFirstSection 6 (IsVector IsGlobal))
+    (Both (IsFirstSection 7 (IsVector IsFirstExport))
+    (IsFirstSection 10 (WithText IsOneBody)))))) text first
 
 -- section 5.5.16: the bytes spell the module
-pub record Spells (bytes : List ℕ) (first : FirstModule) : Type 0 where
+pub record SpellsFirst (bytes : List ℕ) (first : FirstModule) : Type 0 where
   pub sections : List ℕ
-  pub whole : bytes ≡ header ++ sections
-  pub spelled : AreSections sections first
+  pub whole : bytes ≡ first_header ++ sections
+  pub spelled : AreFirstSections sections first

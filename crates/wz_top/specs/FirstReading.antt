@@ -7,7 +7,7 @@ use Rattle.wz_bytes.specs.Unsigned.{unsigned_at}
 use Rattle.wz_bytes.specs.Signed.{signed_at}
 use Rattle.wz_bytes.specs.Name.{name_at}
 use Rattle.wz_bytes.specs.Forms.{both_at, tagged_at, made_at, sized_at, all_at, vector_at, piece_at}
-use Rattle.wz_top.specs.FirstGrammar.{FirstModule, FirstExport, first_module_of, first_global_of, first_export_of, header}
+use Rattle.wz_top.specs.FirstGrammar.{FirstModule, FirstExport, first_module_of, first_global_of, first_export_of, first_header}
 use Rattle.wz_top.specs.declared.first_grammar.Global.{Global}
 use Rattle.wz_top.specs.declared.first_grammar.Target.{Target}
 use Rattle.wz_top.specs.declared.first_grammar.Target.TheVariants as target
@@ -83,20 +83,20 @@ first_entry_at bytes = made_at (λ x. x.1) (both_at (number_at 0) first_expressi
 abbrev pub one_body_at : FrontReading (List Instruction)
 one_body_at bytes = made_at (λ x. x.1) (both_at (number_at 1) (sized_at first_entry_at)) bytes
 
-abbrev pub section_at : {X : Type 0} → ℕ → FrontReading X → FrontReading X
-section_at id read bytes = tagged_at id (sized_at read) bytes
+abbrev pub first_section_at : {X : Type 0} → ℕ → FrontReading X → FrontReading X
+first_section_at id read bytes = tagged_at id (sized_at read) bytes
 
 abbrev pub sections_at : FrontReading FirstModule
 sections_at bytes =
     made_at first_module_of
-    (both_at (section_at 1 (with_text_at one_type_at))
-    (both_at (section_at 3 (with_text_at one_function_at))
-    (both_at (section_at 6 (vector_at global_at))
-    (both_at (section_at 7 (vector_at first_export_at))
-    (section_at 10 (with_text_at one_body_at)))))) bytes
+    (both_at (first_section_at 1 (with_text_at one_type_at))
+    (both_at (first_section_at 3 (with_text_at one_function_at))
+    (both_at (first_section_at 6 (vector_at global_at))
+    (both_at (first_section_at 7 (vector_at first_export_at))
+    (first_section_at 10 (with_text_at one_body_at)))))) bytes
 
 abbrev pub module_at : List ℕ → Option FirstModule
-module_at bytes = if starts_with nat_eq bytes header then all_at sections_at (drop 8 bytes) else None
+module_at bytes = if starts_with nat_eq bytes first_header then all_at sections_at (drop 8 bytes) else None
 
 -- the contents of a section, unread
 abbrev pub contents_at : ℕ → FrontReading (List ℕ)

@@ -1,7 +1,7 @@
 -- What the code of such a module does: section 4.4 of the Core Specification, for four instructions.
 use Rattle.std.specs.Prelude.{◌≡◌, ◌≢◌, ℕ, ◌+◌, ◌%◌, ◌^◌, ◌<◌, List, [], ◌∷◌, length, slice_get, slice_set, Option, Some, None, if◌then◌else◌, All, map, codes, ⊤}
 use Rattle.std.specs.Option.{option_map, option_and_then}
-use Rattle.wz_top.specs.FirstGrammar.{FirstModule, FirstExport, Spells}
+use Rattle.wz_top.specs.FirstGrammar.{FirstModule, FirstExport, SpellsFirst}
 use Rattle.wz_top.specs.declared.first_grammar.Global.{Global}
 use Rattle.wz_top.specs.declared.first_grammar.Target.{Target}
 use Rattle.wz_top.specs.declared.first_grammar.Target.TheVariants as target
@@ -71,5 +71,5 @@ pub record IsGoing (first : FirstModule) (reached : List Global) : Type 0 where
 
 -- The bytes are a module that goes through, whose code leaves these globals.
 pub record IsFirst (bytes : List ℕ) (first : FirstModule) (reached : List Global) : Type 0 where
-  pub spelled : Spells bytes first
+  pub spelled : SpellsFirst bytes first
   pub goes : IsGoing first reached

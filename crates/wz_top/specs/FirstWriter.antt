@@ -4,7 +4,7 @@ use Rattle.std.specs.List.{flat_map}
 use Rattle.std.specs.Int.{w32, cast_signed}
 use Rattle.std.specs.Cmp.Lexicographic.{pointwise}
 use Rattle.wz_bytes.specs.Shortest.{shortest_unsigned, shortest_signed}
-use Rattle.wz_top.specs.FirstGrammar.{FirstModule, FirstExport, header}
+use Rattle.wz_top.specs.FirstGrammar.{FirstModule, FirstExport, first_header}
 use Rattle.wz_top.specs.FirstRun.{initialize}
 use Rattle.wz_top.specs.declared.outcome.Report.{Report}
 use Rattle.wz_top.specs.declared.first_grammar.Global.{Global}
@@ -40,7 +40,7 @@ kept exports = filter (λ e. not (pointwise nat_eq e.name initialize)) exports
 -- the module with these values of its globals and without the initialisation's export
 abbrev pub output : FirstModule → List Global → List ℕ
 output first reached =
-    header
+    first_header
     ++ section 1 first.types
     ++ section 3 first.functions
     ++ section 6 (vector global reached)

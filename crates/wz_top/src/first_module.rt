@@ -2,7 +2,7 @@
 
 ghost use Rattle.std.specs.Prelude.{◌≡◌, Some, None, [], map, IfOk, IfSome, IsNone, IsErrOf};
 ghost use Rattle.wz_bytes.specs.Forms.{all_at, vector_at};
-ghost use Rattle.wz_top.specs.FirstReading.{section_at, with_text_at, one_type_at, one_function_at, one_body_at, global_at, first_export_at, first_expression_at, first_entry_at, instructions_in, sections_at, module_at};
+ghost use Rattle.wz_top.specs.FirstReading.{first_section_at, with_text_at, one_type_at, one_function_at, one_body_at, global_at, first_export_at, first_expression_at, first_entry_at, instructions_in, sections_at, module_at};
 ghost use Rattle.wz_top.specs.FirstViews.{export_view, module_view};
 
 use crate::first_grammar::{Export, Global, Instruction, Module};
@@ -71,8 +71,8 @@ fn read_code(alloc: Heap, contents: &[u8]) -> Result<Vec<Instruction>, ReadFault
 
 /// The contents of the type section, and the bytes behind it.
 fn types_section(bytes: &[u8]) -> Option<(&[u8], &[u8])>
-    ensures found { IfSome result (λ r. section_at 1 (with_text_at one_type_at) bytes.now ≡ Some ((r.0.now, tt), r.1.now)) }
-    ensures none { IsNone result → section_at 1 (with_text_at one_type_at) bytes.now ≡ None }
+    ensures found { IfSome result (λ r. first_section_at 1 (with_text_at one_type_at) bytes.now ≡ Some ((r.0.now, tt), r.1.now)) }
+    ensures none { IsNone result → first_section_at 1 (with_text_at one_type_at) bytes.now ≡ None }
 {
     let (contents, rest) = contents(1, bytes)?;
     if !is_one_type(contents) {
@@ -83,8 +83,8 @@ fn types_section(bytes: &[u8]) -> Option<(&[u8], &[u8])>
 
 /// The contents of the function section, and the bytes behind it.
 fn functions_section(bytes: &[u8]) -> Option<(&[u8], &[u8])>
-    ensures found { IfSome result (λ r. section_at 3 (with_text_at one_function_at) bytes.now ≡ Some ((r.0.now, tt), r.1.now)) }
-    ensures none { IsNone result → section_at 3 (with_text_at one_function_at) bytes.now ≡ None }
+    ensures found { IfSome result (λ r. first_section_at 3 (with_text_at one_function_at) bytes.now ≡ Some ((r.0.now, tt), r.1.now)) }
+    ensures none { IsNone result → first_section_at 3 (with_text_at one_function_at) bytes.now ≡ None }
 {
     let (contents, rest) = contents(3, bytes)?;
     if !is_one_function(contents) {
@@ -95,8 +95,8 @@ fn functions_section(bytes: &[u8]) -> Option<(&[u8], &[u8])>
 
 /// The globals, and the bytes behind their section.
 fn globals_section(alloc: Heap, bytes: &[u8]) -> Result<(Vec<Global>, &[u8]), ReadFault>
-    ensures found { IfOk result (λ r. section_at 6 (vector_at global_at) bytes.now ≡ Some (r.0.items, r.1.now)) }
-    ensures bad { IsErrOf result ReadFault.Bad → section_at 6 (vector_at global_at) bytes.now ≡ None }
+    ensures found { IfOk result (λ r. first_section_at 6 (vector_at global_at) bytes.now ≡ Some (r.0.items, r.1.now)) }
+    ensures bad { IsErrOf result ReadFault.Bad → first_section_at 6 (vector_at global_at) bytes.now ≡ None }
 {
     let Some((contents, rest)) = contents(6, bytes) else {
         return Err(ReadFault::Bad);
@@ -107,8 +107,8 @@ fn globals_section(alloc: Heap, bytes: &[u8]) -> Result<(Vec<Global>, &[u8]), Re
 
 /// The exports, and the bytes behind their section.
 fn exports_section(alloc: Heap, bytes: &[u8]) -> Result<(Vec<Export<'_>>, &[u8]), ReadFault>
-    ensures found { IfOk result (λ r. section_at 7 (vector_at first_export_at) bytes.now ≡ Some (map export_view r.0.items, r.1.now)) }
-    ensures bad { IsErrOf result ReadFault.Bad → section_at 7 (vector_at first_export_at) bytes.now ≡ None }
+    ensures found { IfOk result (λ r. first_section_at 7 (vector_at first_export_at) bytes.now ≡ Some (map export_view r.0.items, r.1.now)) }
+    ensures bad { IsErrOf result ReadFault.Bad → first_section_at 7 (vector_at first_export_at) bytes.now ≡ None }
 {
     let Some((contents, rest)) = contents(7, bytes) else {
         return Err(ReadFault::Bad);
@@ -119,8 +119,8 @@ fn exports_section(alloc: Heap, bytes: &[u8]) -> Result<(Vec<Export<'_>>, &[u8])
 
 /// The contents of the code section and its instructions, where no bytes are behind it.
 fn code_section(alloc: Heap, bytes: &[u8]) -> Result<(&[u8], Vec<Instruction>), ReadFault>
-    ensures found { IfOk result (λ r. section_at 10 (with_text_at one_body_at) bytes.now ≡ Some ((r.0.now, r.1.items), [])) }
-    ensures bad { IsErrOf result ReadFault.Bad → all_at (section_at 10 (with_text_at one_body_at)) bytes.now ≡ None }
+    ensures found { IfOk result (λ r. first_section_at 10 (with_text_at one_body_at) bytes.now ≡ Some ((r.0.now, r.1.items), [])) }
+    ensures bad { IsErrOf result ReadFault.Bad → all_at (first_section_at 10 (with_text_at one_body_at)) bytes.now ≡ None }
 {
     let Some((contents, rest)) = contents(10, bytes) else {
         return Err(ReadFault::Bad);
