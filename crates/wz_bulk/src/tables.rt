@@ -15,7 +15,11 @@ use wz_store::Store;
 use wz_types::{RefKind, Reference, TrapKind};
 
 /// The entry at a place of a table; the error is a trap or Stuck.
-pub fn table_get<'m, M: Linear>(store: &Store<'m, M>, table: u32, at: u32) -> Result<Reference, Bulk>
+pub fn table_get<'m, M: Linear>(
+    store: &Store<'m, M>,
+    table: u32,
+    at: u32,
+) -> Result<Reference, Bulk>
     ensures { result ≡ table_get_answer (slice_get store.now.tables table) at }
 {
     match store.table(table) {

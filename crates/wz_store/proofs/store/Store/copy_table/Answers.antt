@@ -26,8 +26,8 @@ returns-else-to_table-from_table g c =
     let there : c.args.to_table < length c.self.inside.tables.items = subst (λ (s : StoreState). c.args.to_table < length s.tables) (sym c.self.view_is) c.requires.to.0 in
     let here : c.args.from_table < length c.self.inside.tables.items = subst (λ (s : StoreState). c.args.from_table < length s.tables) (sym c.self.view_is) c.requires.from.0 in
     let copied = c.overwrite.ensures
-        ∙ ap (λ (xs : List Reference). overwritten xs c.args.to c.range.result.now) c.take_entries-entries.ensures.taken
-        ∙ ap (λ (xs : List Reference). overwritten target.entries c.args.to xs) (c.range.ensures ∙ ap (λ (xs : List Reference). range_of xs c.args.from c.args.len) c.entries-items.ensures.value) in
+    ∙ ap (λ (xs : List Reference). overwritten xs c.args.to c.range.result.now) c.take_entries-entries.ensures.taken
+    ∙ ap (λ (xs : List Reference). overwritten target.entries c.args.to xs) (c.range.ensures ∙ ap (λ (xs : List Reference). range_of xs c.args.from c.args.len) c.entries-items.ensures.value) in
     rw (← c.self.view_is)
     (table_is_refilled _ (λ t. with_entries c.args.to (range_of (entries_in c.self.inside.tables.items c.args.from_table) c.args.from c.args.len) t) c.args.to_table c.put_entries.new.self
     c.take_entries-entries.new.self target there c.index_mut-target.ensures.value
