@@ -1,12 +1,13 @@
 -- A range written item by item is the range written at once.
 use Rattle.std.proofs.Common.{◌≡◌, ℕ, zero, suc, ◌+◌, ◌<◌, ◌≤◌, ◌⊎◌, inl, inr, ⊎_elim, List, [], ◌∷◌, ◌++◌, length, take, drop, replicate, get_or, true, false, nat_le, refl, sym, ap, ◌∙◌, arith, rules}
-use Rattle.std.proofs.lemmas.List.{places, same_lists, length-append, length-take, length-drop}
+use Rattle.std.proofs.lemmas.List.{places, same_lists, append_assoc, length-append, length-take, length-drop}
 use Rattle.std.proofs.lemmas.List.Edits.{paste_all, paste-paste}
 use Rattle.std.proofs.lemmas.Bool.{cases_lt}
 use Rattle.std.proofs.lemmas.Bool.Decides.{nat_tests}
 use Rattle.std.proofs.Math.Seq.{paste}
+use Rattle.wz_linear.specs.Bytes.{part, written}
 use Rattle.wz_store.specs.Changes.{overwritten, range_of}
-use Rattle.wz_bulk.specs.OneByOne.{filled_by_one, copied_by_one, moved_by_one}
+use Rattle.wz_bulk.specs.OneByOne.{filled_by_one, copied_by_one, moved_by_one, FillsBytesByOne, CopiesBytesByOne, MovesBytesByOne}
 
 length-overwritten : {A : Type 0} (xs : List A) (at : ℕ) (new : List A) → at + length new ≤ length xs → length (overwritten xs at new) ≡ length xs
 length-overwritten xs at new h = simp (length-append, length-take, length-drop) (omega arith)
@@ -96,3 +97,24 @@ move_down {A = A} xs to from (suc count) order h =
 
 pub move_is_whole : {A : Type 0} (xs : List A) (to from count : ℕ) → to + count ≤ length xs → from + count ≤ length xs → moved_by_one xs to from count ≡ overwritten xs to (range_of xs from count)
 move_is_whole xs to from count h s = ⊎_elim (λ down. move_down xs to from count down h) (λ up. move_up xs to from count up s) (cases_lt from to)
+
+-- ---- the same of bytes, in the words of wz_linear
+
+pub written_is : (xs : List ℕ) (at : ℕ) (new : List ℕ) → overwritten xs at new ≡ written xs at new
+unfolding written
+written_is xs at new = sym (append_assoc (take at xs) new (drop (at + length new) xs))
+
+pub part_is : (xs : List ℕ) (from count : ℕ) → range_of xs from count ≡ part xs from count
+unfolding part
+part_is xs from count = refl
+
+pub fill_of_bytes : FillsBytesByOne
+fill_of_bytes memory at byte count h = fill_is_whole memory at byte count h ∙ written_is memory at (replicate count byte)
+
+pub copy_of_bytes : CopiesBytesByOne
+copy_of_bytes source memory to from count h s =
+    copy_is_whole source memory to from count h s ∙ written_is memory to (range_of source from count) ∙ ap (λ (bytes : List ℕ). written memory to bytes) (part_is source from count)
+
+pub move_of_bytes : MovesBytesByOne
+move_of_bytes memory to from count h s =
+    move_is_whole memory to from count h s ∙ written_is memory to (range_of memory from count) ∙ ap (λ (bytes : List ℕ). written memory to bytes) (part_is memory from count)

@@ -1,7 +1,5 @@
-use Rattle.wz_linear.specs.Bytes.{part, written}
-use Rattle.wz_bulk.proofs.RangeLemmas.{fill_is_whole, copy_is_whole, move_is_whole}
+use Rattle.wz_bulk.proofs.RangeLemmas.{fill_of_bytes, copy_of_bytes, move_of_bytes}
 use Rattle.wz_bulk.proofs.laws.bytes_one_by_one.Goals as goal
 
 pub returns : goal.returns
-unfolding part written
-returns c = record { filled = fill_is_whole; copied = copy_is_whole; moved = move_is_whole }
+returns c = record { filled = fill_of_bytes; copied = copy_of_bytes; moved = move_of_bytes }
