@@ -26,13 +26,15 @@ join xs at next a b e h =
     ∙ ap (λ n. take at xs ++ ((a ++ b) ++ drop (at + n) xs)) (sym (length-append a b))
 
 -- the range behind first
-join_back : {A : Type 0} (xs : List A) (at next : ℕ) (a b : List A) → next ≡ at + length a → next + length b ≤ length xs → overwritten (overwritten xs next b) at a ≡ overwritten xs at (a ++ b)
+join_back : {A : Type 0} (xs : List A) (at next : ℕ) (a b : List A) → next ≡ at + length a → next + length b ≤ length xs
+    → overwritten (overwritten xs next b) at a ≡ overwritten xs at (a ++ b)
 join_back xs at next a b e h = same_lists _ _ (search (rules, places)) (λ k d l. grind (arith, places))
 
 range_more : {A : Type 0} (xs : List A) (from a b : ℕ) → from + (a + b) ≤ length xs → range_of xs from a ++ range_of xs (from + a) b ≡ range_of xs from (a + b)
 range_more xs from a b h = same_lists _ _ (search (rules, places)) (λ k d l. grind (arith, places))
 
-range_apart : {A : Type 0} (xs : List A) (at : ℕ) (new : List A) (from count : ℕ) → at + length new ≤ length xs → from + count ≤ length xs → (from + count ≤ at) ⊎ (at + length new ≤ from)
+range_apart : {A : Type 0} (xs : List A) (at : ℕ) (new : List A) (from count : ℕ) → at + length new ≤ length xs → from + count ≤ length xs
+    → (from + count ≤ at) ⊎ (at + length new ≤ from)
     → range_of (overwritten xs at new) from count ≡ range_of xs from count
 range_apart xs at new from count h inside apart = same_lists _ _ (search (rules, places)) (λ k d l. grind (arith, places, apart))
 
@@ -40,7 +42,8 @@ range_apart xs at new from count h inside apart = same_lists _ _ (search (rules,
 nothing : {A : Type 0} (xs : List A) (at : ℕ) → xs ≡ overwritten xs at []
 nothing xs at = same_lists _ _ (search (rules, places)) (λ k d l. grind (arith, places))
 
-pub fill_is_whole : {A : Type 0} (xs : List A) (at : ℕ) (value : A) (count : ℕ) → at + count ≤ length xs → filled_by_one xs at value count ≡ overwritten xs at (replicate count value)
+pub fill_is_whole : {A : Type 0} (xs : List A) (at : ℕ) (value : A) (count : ℕ) → at + count ≤ length xs
+    → filled_by_one xs at value count ≡ overwritten xs at (replicate count value)
 fill_is_whole xs at value zero h = nothing xs at
 fill_is_whole xs at value (suc count) h =
     let size = length-overwritten xs at (value ∷ []) (omega arith) in
@@ -95,7 +98,8 @@ move_down {A = A} xs to from (suc count) order h =
     ∙ join_back xs to (to + count) (range_of xs from count) (range_of xs (from + count) 1) (ap (λ n. to + n) (sym rest)) (omega (arith, one))
     ∙ ap (λ (ys : List A). overwritten xs to ys) (one_behind xs from count (omega arith)))
 
-pub move_is_whole : {A : Type 0} (xs : List A) (to from count : ℕ) → to + count ≤ length xs → from + count ≤ length xs → moved_by_one xs to from count ≡ overwritten xs to (range_of xs from count)
+pub move_is_whole : {A : Type 0} (xs : List A) (to from count : ℕ) → to + count ≤ length xs → from + count ≤ length xs
+    → moved_by_one xs to from count ≡ overwritten xs to (range_of xs from count)
 move_is_whole xs to from count h s = ⊎_elim (λ down. move_down xs to from count down h) (λ up. move_up xs to from count up s) (cases_lt from to)
 
 -- ---- the same of bytes, in the words of wz_linear
@@ -113,7 +117,8 @@ fill_of_bytes memory at byte count h = fill_is_whole memory at byte count h ∙ 
 
 pub copy_of_bytes : CopiesBytesByOne
 copy_of_bytes source memory to from count h s =
-    copy_is_whole source memory to from count h s ∙ written_is memory to (range_of source from count) ∙ ap (λ (bytes : List ℕ). written memory to bytes) (part_is source from count)
+    copy_is_whole source memory to from count h s ∙ written_is memory to (range_of source from count) ∙ ap (λ (bytes : List ℕ). written memory to bytes) (part_is source from
+    count)
 
 pub move_of_bytes : MovesBytesByOne
 move_of_bytes memory to from count h s =

@@ -1,4 +1,4 @@
-//! Why an instruction on a whole range is what the standard's rules come to, which go one item after another.
+//! Why an instruction on a whole range is what the standard's rules come to, which go item by item.
 //!
 //! These functions do nothing. A caller's proof cites what they ensure.
 

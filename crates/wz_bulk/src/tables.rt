@@ -188,7 +188,7 @@ pub fn elem_drop<'m, M: Linear>(store: &mut Store<'m, M>, segment: u32) -> Bulk
     }
 }
 
-/// How many entries a table of this kind has; None where there is no such table, or one of another kind.
+/// How many entries a table of this kind has; None where there is none, or one of another kind.
 fn size_for<'m, M: Linear>(store: &Store<'m, M>, table: u32, kind: RefKind) -> Option<u32>
     ensures { result ≡ size_if (slice_get store.now.tables table) kind }
 {

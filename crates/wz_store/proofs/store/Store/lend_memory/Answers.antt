@@ -12,11 +12,13 @@ returns g c =
       (
         refl,
         λ w. rw (← c.self.view_is)
-            (memory_is_altered _ (λ m. with_contents (g.M.Linear.contents w) m) c.args.at (with_contents (g.M.Linear.contents w) c.index_mut-memory.result.now) memory within c.index_mut-memory.ensures.value refl),
+            (memory_is_altered _ (λ m. with_contents (g.M.Linear.contents w) m) c.args.at (with_contents (g.M.Linear.contents w) c.index_mut-memory.result.now) memory within
+            c.index_mut-memory.ensures.value refl),
       ),
       record {
         lent = tt;
         value = rw (← c.self.view_is)
-            (part_at (λ (m : Memory). m.bytes) _ c.args.at memory (g.M.Linear.contents c.memory_mut.result.now) within c.index_mut-memory.ensures.value c.memory_mut.ensures.value);
+            (part_at (λ (m : Memory). m.bytes) _ c.args.at memory (g.M.Linear.contents c.memory_mut.result.now) within c.index_mut-memory.ensures.value
+            c.memory_mut.ensures.value);
       },
     )
