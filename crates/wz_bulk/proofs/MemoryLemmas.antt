@@ -19,7 +19,8 @@ same_item o x y one other = cc (sym one ∙ other)
 
 pub contents_kept : {F : Type 0} (s : StateOf F) (i : ℕ) (m : Memory) (new : List ℕ) → slice_get s.memories i ≡ Some m → new ≡ m.bytes → with_contents_at s i new ≡ s
 contents_kept s i m new is same = ap (λ (ms : List Memory). record s { memories = ms })
-    (altered_kept (λ memory. with_contents new memory) s.memories i (λ x e. ap (λ (bytes : List ℕ). with_contents bytes x) (same ∙ ap (λ (y : Memory). y.bytes) (same_item (slice_get s.memories i) m x is e))))
+    (altered_kept (λ memory. with_contents new memory) s.memories i (λ x e. ap (λ (bytes : List ℕ). with_contents bytes x) (same ∙ ap (λ (y : Memory). y.bytes) (same_item
+    (slice_get s.memories i) m x is e))))
 
 pub contents_written : {F : Type 0} (s : StateOf F) (i to : ℕ) (bytes : List ℕ) (m : Memory) (new : List ℕ) → slice_get s.memories i ≡ Some m → new ≡ written m.bytes to bytes
     → with_contents_at s i new ≡ applied (WriteMemory i to bytes) s
@@ -38,7 +39,8 @@ bytes_done s i to bytes old new false there wrote left =
     contents_kept s i m.0 new m.1 (left ∙ sym m.2)
 
 -- nothing was written
-pub bytes_left : {T E F : Type 0} (r : Result T E) (s : StateOf F) (i : ℕ) (old new : List ℕ) → Some old ≡ option_map (λ (m : Memory). m.bytes) (slice_get s.memories i) → new ≡ old
+pub bytes_left : {T E F : Type 0} (r : Result T E) (s : StateOf F) (i : ℕ) (old new : List ℕ) → Some old ≡ option_map (λ (m : Memory). m.bytes) (slice_get s.memories i)
+    → new ≡ old
     → OnErr r (with_contents_at s i new ≡ s)
 bytes_left (Ok x) s i old new there left = tt
 bytes_left (Err e) s i old new there left =
@@ -62,23 +64,27 @@ both_true a b done e h = rw (e, h) (and_true done)
     and_true true = refl
     and_true false = refl
 
-pub fill_effect_is : (o : Option Memory) (i to byte count : ℕ) (old : List ℕ) (done : Bool) → Some old ≡ option_map (λ (m : Memory). m.bytes) o → IsTrue done ↔ IsWithin old to count
+pub fill_effect_is : (o : Option Memory) (i to byte count : ℕ) (old : List ℕ) (done : Bool) → Some old ≡ option_map (λ (m : Memory). m.bytes) o
+    → IsTrue done ↔ IsWithin old to count
     → memory_fill_effect i o to byte count ≡ bytes_effect i to (replicate count byte) done
 fill_effect_is None i to byte count old done there test = absurd (cc there)
 fill_effect_is (Some m) i to byte count old done there test =
     let same : old ≡ m.bytes = cc there in
     ap (λ fits. bytes_effect i to (replicate count byte) fits) (ap (λ b. within to count (length b)) (sym same) ∙ fits_is to count (length old) done test)
 
-pub init_effect_is : (o : Option Memory) (d : Option (List ℕ)) (i to from count : ℕ) (old source : List ℕ) (done : Bool) → Some old ≡ option_map (λ (m : Memory). m.bytes) o → d ≡ Some source
+pub init_effect_is : (o : Option Memory) (d : Option (List ℕ)) (i to from count : ℕ) (old source : List ℕ) (done : Bool)
+    → Some old ≡ option_map (λ (m : Memory). m.bytes) o → d ≡ Some source
     → within from count (length source) ≡ true → IsTrue done ↔ IsWithin old to count → memory_init_effect i o d to from count ≡ bytes_effect i to (part source from count) done
 init_effect_is None d i to from count old source done there given fits test = absurd (cc there)
 init_effect_is (Some m) d i to from count old source done there given fits test =
     let same : old ≡ m.bytes = cc there in
     rw given
     (ap (λ fits. bytes_effect i to (part source from count) fits)
-    (both_true (within to count (length m.bytes)) (within from count (length source)) done (ap (λ b. within to count (length b)) (sym same) ∙ fits_is to count (length old) done test) fits))
+    (both_true (within to count (length m.bytes)) (within from count (length source)) done (ap (λ b. within to count (length b)) (sym same) ∙ fits_is to count (length old)
+    done test) fits))
 
-pub init_effect_fails : (o : Option Memory) (d : Option (List ℕ)) (i to from count : ℕ) (old source : List ℕ) → Some old ≡ option_map (λ (m : Memory). m.bytes) o → d ≡ Some source
+pub init_effect_fails : (o : Option Memory) (d : Option (List ℕ)) (i to from count : ℕ) (old source : List ℕ) → Some old ≡ option_map (λ (m : Memory). m.bytes) o
+    → d ≡ Some source
     → within from count (length source) ≡ false → memory_init_effect i o d to from count ≡ Aborts MemoryBounds
 init_effect_fails None d i to from count old source there given fits = absurd (cc there)
 init_effect_fails (Some m) d i to from count old source there given fits =
@@ -94,7 +100,8 @@ bytes_kept s i old there =
     contents_kept s i m.0 old m.1 (sym m.2)
 
 -- from another memory, whose range was tested before
-pub copy_effect_is : (o p : Option Memory) (i to from count : ℕ) (old source : List ℕ) (done : Bool) → Some old ≡ option_map (λ (m : Memory). m.bytes) o → Some source ≡ option_map (λ (m : Memory). m.bytes) p
+pub copy_effect_is : (o p : Option Memory) (i to from count : ℕ) (old source : List ℕ) (done : Bool) → Some old ≡ option_map (λ (m : Memory). m.bytes) o
+    → Some source ≡ option_map (λ (m : Memory). m.bytes) p
     → within from count (length source) ≡ true → IsTrue done ↔ IsWithin old to count → memory_copy_effect i o p to from count ≡ bytes_effect i to (part source from count) done
 copy_effect_is None p i to from count old source done there given fits test = absurd (cc there)
 copy_effect_is (Some m) None i to from count old source done there given fits test = absurd (cc given)

@@ -1,4 +1,5 @@
 pub mod Effects
 pub mod MemoryEffects
+pub mod OneByOne
 pub mod Sizes
 pub mod TableEffects

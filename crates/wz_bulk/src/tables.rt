@@ -15,7 +15,11 @@ use wz_store::Store;
 use wz_types::{RefKind, Reference, TrapKind};
 
 /// The entry at a place of a table; the error is a trap or Stuck.
-pub fn table_get<'m, M: Linear>(store: &Store<'m, M>, table: u32, at: u32) -> Result<Reference, Bulk>
+pub fn table_get<'m, M: Linear>(
+    store: &Store<'m, M>,
+    table: u32,
+    at: u32,
+) -> Result<Reference, Bulk>
     ensures { result ≡ table_get_answer (slice_get store.now.tables table) at }
 {
     match store.table(table) {
@@ -184,7 +188,7 @@ pub fn elem_drop<'m, M: Linear>(store: &mut Store<'m, M>, segment: u32) -> Bulk
     }
 }
 
-/// How many entries a table of this kind has; None where there is no such table, or one of another kind.
+/// How many entries a table of this kind has; None where there is none, or one of another kind.
 fn size_for<'m, M: Linear>(store: &Store<'m, M>, table: u32, kind: RefKind) -> Option<u32>
     ensures { result ≡ size_if (slice_get store.now.tables table) kind }
 {

@@ -19,12 +19,14 @@ set_is_altered alter (y ∷ xs) (suc i) x d h e = ap (λ ys. y ∷ ys) (set_is_a
 pub global_is_set : {F : Type 0} (s : StateOf F) (i : ℕ) (value : Value) (x d : Global) → i < length s.globals → d ≡ get_or s.globals i d → x ≡ with_content value d
     → record s { globals = set s.globals i x } ≡ applied (SetGlobal i value) s
 global_is_set s i value x d h old new =
-    ap (λ (xs : List Global). record s { globals = xs }) (set_is_altered (λ global. with_content value global) s.globals i x d h (new ∙ ap (λ (y : Global). with_content value y) old))
+    ap (λ (xs : List Global). record s { globals = xs }) (set_is_altered (λ global. with_content value global) s.globals i x d h (new ∙ ap (λ (y : Global). with_content
+    value y) old))
 
 pub element_is_emptied : {F : Type 0} (s : StateOf F) (i : ℕ) (x d : Element) → i < length s.elements → d ≡ get_or s.elements i d → x ≡ without_items d
     → record s { elements = set s.elements i x } ≡ applied (EmptyElement i) s
 element_is_emptied s i x d h old new =
-    ap (λ (xs : List Element). record s { elements = xs }) (set_is_altered (λ element. without_items element) s.elements i x d h (new ∙ ap (λ (y : Element). without_items y) old))
+    ap (λ (xs : List Element). record s { elements = xs }) (set_is_altered (λ element. without_items element) s.elements i x d h (new ∙ ap (λ (y : Element). without_items y)
+    old))
 
 pub data_is_emptied : {F : Type 0} (s : StateOf F) (i : ℕ) (x d : List ℕ) → i < length s.datas → x ≡ []
     → record s { datas = set s.datas i x } ≡ applied (EmptyData i) s
@@ -56,7 +58,8 @@ table_is_refilled s alter i x t d h old new =
     ap (λ (xs : List Table). record s { tables = xs }) (set-set s.tables i t x) ∙ table_is_altered s alter i x d h old new
 
 -- a copy between two tables: the target d was emptied (t) while the source's entries were written over its own, and got them back (x)
-pub table_is_copied : (tables : List Table) (into out to from count : ℕ) (d t source again x : Table) (new : List Reference) → into < length tables → out < length tables → out ≢ into
+pub table_is_copied : (tables : List Table) (into out to from count : ℕ) (d t source again x : Table) (new : List Reference) → into < length tables → out < length tables
+    → out ≢ into
     → t ≡ record d { entries = [] } → source ≡ get_or (set tables into t) out source → again ≡ get_or (set tables into t) into again
     → new ≡ overwritten d.entries to (range_of source.entries from count) → x ≡ record again { entries = new }
     → x ≡ with_entries to (range_of (entries_in tables out) from count) d

@@ -47,11 +47,11 @@ page_size = 65536
 abbrev pub pages_of : Memory → ℕ
 pages_of memory = length memory.bytes / page_size
 
-abbrev pub limits_from : ℕ → Option ℕ → Limits
-limits_from size maximum = record { min = size; max = maximum }
+abbrev pub present_limits : ℕ → Option ℕ → Limits
+present_limits size maximum = record { min = size; max = maximum }
 
 abbrev pub table_type_of : Table → TableType
-table_type_of table = record { kind = table.kind; limits = limits_from (length table.entries) table.maximum }
+table_type_of table = record { kind = table.kind; limits = present_limits (length table.entries) table.maximum }
 
 abbrev pub memory_type_of : Memory → MemType
-memory_type_of memory = record { limits = limits_from (pages_of memory) memory.maximum }
+memory_type_of memory = record { limits = present_limits (pages_of memory) memory.maximum }

@@ -38,13 +38,13 @@ impl<'m, M: Linear> Model for Store<'m, M> {
     ghost Value = { StoreState };
 
     ghost view = { λ s. record {
-        types = s.types.now;
-        functions = s.functions.items;
-        globals = s.globals.items;
-        tables = s.tables.items;
-        memories = s.memories.items;
-        elements = s.elements.items;
-        datas = s.datas.items
+      types = s.types.now;
+      functions = s.functions.items;
+      globals = s.globals.items;
+      tables = s.tables.items;
+      memories = s.memories.items;
+      elements = s.elements.items;
+      datas = s.datas.items;
     } };
 
     ghost invariant = { λ s. (length s.types.now < 2 ^ 32) × (length s.functions.items < 2 ^ 32)

@@ -7,7 +7,8 @@ use Rattle.wz_bulk.proofs.memories.memory_copy.Goals as goal
 
 pub returns-in_err-done-in-Some-clause-refused : goal.returns-in_err-done-in-Some-clause-refused
 returns-in_err-done-in-Some-clause-refused g c =
-    bytes_left c.from_residual.result c.args.store.now c.args.to_memory (g.M.Linear.contents c.in-Some.bytes.now) (g.M.Linear.contents c.copy.new.self) c.in-Some.ensures.value c.in_err-done-in-Some.ensures.refused
+    bytes_left c.from_residual.result c.args.store.now c.args.to_memory (g.M.Linear.contents c.in-Some.bytes.now) (g.M.Linear.contents c.copy.new.self)
+    c.in-Some.ensures.value c.in_err-done-in-Some.ensures.refused
 
 pub returns-in_ok-done-in-Some-clause-store : goal.returns-in_ok-done-in-Some-clause-store
 returns-in_ok-done-in-Some-clause-store g c =
@@ -18,4 +19,5 @@ returns-in_ok-done-in-Some-clause-store g c =
     bytes_done c.args.store.now c.args.to_memory c.args.to (part old c.args.from c.args.len) old (g.M.Linear.contents c.copy.new.self) done c.in-Some.ensures.value
     c.in_ok-done-in-Some.ensures.copied c.in_ok-done-in-Some.ensures.outside
     ∙ ap (λ e. state_after e c.args.store.now) (sym effect)
-    ∙ ap (λ n. state_after (memory_copy_effect c.args.to_memory target (slice_get c.args.store.now.memories n) c.args.to c.args.from c.args.len) c.args.store.now) c.if-to_memory-from_memory.false
+    ∙ ap (λ n. state_after (memory_copy_effect c.args.to_memory target (slice_get c.args.store.now.memories n) c.args.to c.args.from c.args.len) c.args.store.now)
+    c.if-to_memory-from_memory.false
