@@ -13,8 +13,6 @@
 mod items;
 mod module;
 
-
-
 pub use items::{
     DataMode, DataSegment, Elem, ElemItems, ElemMode, Export, ExportTarget, GlobalDef, Import,
     ImportKind, Section, Span,
