@@ -1,5 +1,5 @@
 -- What a store holds after a write through a memory that it lent.
-use Rattle.std.proofs.Common.{◌≡◌, ◌↔◌, ◌+◌, ◌≤◌, ℕ, List, Option, Some, None, Result, Ok, Err, OnErr, Bool, true, false, ◌&&◌, if◌then◌else◌, IsTrue, length, replicate, option_map, slice_get, refl, ap, sym, subst, ◌∙◌, nat_le, arith}
+use Rattle.std.proofs.Common.{◌≡◌, ◌↔◌, ◌+◌, ◌≤◌, ℕ, List, Option, Some, None, Result, Ok, Err, OnErr, Bool, true, false, ◌&&◌, if◌then◌else◌, IsTrue, length, replicate, option_map, slice_get, refl, ap, sym, ◌∙◌, arith}
 use Rattle.std.proofs.lemmas.Bool.Decides.{nat_tests}
 use Rattle.std.specs.Bool.{OnTrue, OnFalse}
 use Rattle.wz_types.specs.declared.trap.TrapKind.TheVariants.{MemoryBounds}

@@ -1,5 +1,5 @@
 -- A range written item by item is the range written at once.
-use Rattle.std.proofs.Common.{◌≡◌, ℕ, zero, suc, ◌+◌, ◌<◌, ◌≤◌, ◌⊎◌, inl, inr, ⊎_elim, List, [], ◌∷◌, ◌++◌, length, take, drop, replicate, get_or, true, false, nat_le, refl, sym, ap, ◌∙◌, arith, rules}
+use Rattle.std.proofs.Common.{◌≡◌, ℕ, zero, suc, ◌+◌, ◌<◌, ◌≤◌, ◌⊎◌, inl, inr, ⊎_elim, List, [], ◌∷◌, ◌++◌, length, take, drop, replicate, true, false, nat_le, refl, sym, ap, ◌∙◌, arith, rules}
 use Rattle.std.proofs.lemmas.List.{places, same_lists, append_assoc, length-append, length-take, length-drop}
 use Rattle.std.proofs.lemmas.List.Edits.{paste_all, paste-paste}
 use Rattle.std.proofs.lemmas.Bool.{cases_lt}

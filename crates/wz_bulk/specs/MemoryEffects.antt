@@ -4,7 +4,7 @@
 -- The standard's memory.fill, memory.copy and memory.init store one byte, put the rest of the range on the stack and go
 -- on. As for tables the bounds of the rest follow from those of the whole, and `laws` proves that the bytes stored one by
 -- one are the whole range. A byte that is filled with is below 256: the i32.store8 of the rule takes the low 8 bits.
-use Rattle.std.specs.Prelude.{ℕ, ◌+◌, nat_le, List, Option, Some, None, Bool, ◌&&◌, if◌then◌else◌, length, replicate}
+use Rattle.std.specs.Prelude.{ℕ, List, Option, Some, None, Bool, ◌&&◌, if◌then◌else◌, length, replicate}
 use Rattle.wz_types.specs.declared.trap.TrapKind.TheVariants.{MemoryBounds}
 use Rattle.wz_linear.specs.Bytes.{part}
 use Rattle.wz_store.specs.State.{Memory}

@@ -6,7 +6,7 @@
 -- on, so they look at the bounds again each time. These bounds hold for the rest wherever they hold for the whole range,
 -- so after the first test no trap comes in between. That the entries written one by one are the whole range is proved in
 -- `laws` (for a copy within one table, too, whose order depends on which range is the lower).
-use Rattle.std.specs.Prelude.{ℕ, ◌+◌, nat_le, nat_lt, List, [], ◌∷◌, Option, Some, None, Ok, Err, Result, Bool, ◌&&◌, if◌then◌else◌, length, replicate, slice_get}
+use Rattle.std.specs.Prelude.{ℕ, nat_lt, List, [], ◌∷◌, Option, Some, None, Ok, Err, Result, Bool, ◌&&◌, if◌then◌else◌, length, replicate, slice_get}
 use Rattle.wz_types.specs.declared.types.RefKind.{RefKind}
 use Rattle.wz_types.specs.declared.trap.TrapKind.TheVariants.{TableBounds}
 use Rattle.wz_types.specs.declared.value.Reference.{Reference}
