@@ -3,3 +3,4 @@ pub mod OneModule
 pub mod StepLaws
 pub mod FrontLemmas
 pub mod DataLemmas
+pub mod ShortLemmas
