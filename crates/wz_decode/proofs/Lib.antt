@@ -4,3 +4,4 @@ pub mod StepLaws
 pub mod FrontLemmas
 pub mod DataLemmas
 pub mod ShortLemmas
+pub mod ShortModule

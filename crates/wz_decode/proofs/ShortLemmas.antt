@@ -44,41 +44,41 @@ use Rattle.wz_decode.proofs.SectionLaws.{section_exact}
 
 -- ---- forms that take a byte at least
 
-abbrev TakesSome : {X : Type 0} → Form X → Type 0
+abbrev pub TakesSome : {X : Type 0} → Form X → Type 0
 TakesSome {X = X} S = (x : X) → S [] x → ⊥
 
-no_text : {X : Type 0} (S : Form X) (p : Reading X) → IsExact S p → p [] ≡ None → TakesSome S
+pub no_text : {X : Type 0} (S : Form X) (p : Reading X) → IsExact S p → p [] ≡ None → TakesSome S
 no_text S p exact none x h = none_given (x, []) (p []) none (exact.again [] x [] h)
 
-none_u32 : u32_at [] ≡ None
+pub none_u32 : u32_at [] ≡ None
 unfolding unsigned_at
 none_u32 = refl
 
-none_import : import_at [] ≡ None
+pub none_import : import_at [] ≡ None
 unfolding name_at unsigned_at
 none_import = refl
 
-none_table : table_type_at [] ≡ None
+pub none_table : table_type_at [] ≡ None
 unfolding kind_at
 none_table = refl
 
-none_global : global_def_at [] ≡ None
+pub none_global : global_def_at [] ≡ None
 unfolding type_at
 none_global = refl
 
-none_export : export_at [] ≡ None
+pub none_export : export_at [] ≡ None
 unfolding name_at unsigned_at
 none_export = refl
 
-none_elem : elem_at [] ≡ None
+pub none_elem : elem_at [] ≡ None
 unfolding unsigned_at
 none_elem = refl
 
-none_entry : code_entry_at [] ≡ None
+pub none_entry : code_entry_at [] ≡ None
 unfolding unsigned_at
 none_entry = refl
 
-none_data : data_at [] ≡ None
+pub none_data : data_at [] ≡ None
 unfolding unsigned_at
 none_data = refl
 
@@ -86,35 +86,35 @@ some_bytes : {X : Type 0} (S : Form X) → TakesSome S → (text : List ℕ) (x 
 some_bytes S some [] x h = absurd (some x h)
 some_bytes S some (b ∷ text) x h = omega arith
 
-items_within : {X : Type 0} (S : Form X) → TakesSome S → (xs : List X) (text : List ℕ) → AreItems S text xs → length xs ≤ length text
+pub items_within : {X : Type 0} (S : Form X) → TakesSome S → (xs : List X) (text : List ℕ) → AreItems S text xs → length xs ≤ length text
 items_within S some [] text h = omega arith
 items_within S some (x ∷ xs) text h =
     omega (arith, items_within S some xs h.1 h.4, some_bytes S some h.0 x h.3, ap (λ (l : List ℕ). length l) h.2, length-append h.0 h.1)
 
-vector_within : {X : Type 0} (S : Form X) → TakesSome S → (xs : List X) (text : List ℕ) → IsVector S text xs → length xs ≤ length text
+pub vector_within : {X : Type 0} (S : Form X) → TakesSome S → (xs : List X) (text : List ℕ) → IsVector S text xs → length xs ≤ length text
 vector_within S some xs text h = omega (arith, items_within S some xs h.1 h.4, ap (λ (l : List ℕ). length l) h.2, length-append h.0 h.1)
 
 -- ---- what a form has in it is no longer than its text
 
-abbrev Measures : {X : Type 0} → Form X → (X → ℕ) → Type 0
+abbrev pub Measures : {X : Type 0} → Form X → (X → ℕ) → Type 0
 Measures {X = X} S size = (text : List ℕ) (x : X) → S text x → size x ≤ length text
 
-first_within : {X Y : Type 0} (S : Form X) (T : Form Y) (size : X → ℕ) → Measures S size → Measures (Both S T) (λ z. size z.0)
+pub first_within : {X Y : Type 0} (S : Form X) (T : Form Y) (size : X → ℕ) → Measures S size → Measures (Both S T) (λ z. size z.0)
 first_within S T size m text z h = omega (arith, m h.0 z.0 h.3, ap (λ (l : List ℕ). length l) h.2, length-append h.0 h.1)
 
-second_within : {X Y : Type 0} (S : Form X) (T : Form Y) (size : Y → ℕ) → Measures T size → Measures (Both S T) (λ z. size z.1)
+pub second_within : {X Y : Type 0} (S : Form X) (T : Form Y) (size : Y → ℕ) → Measures T size → Measures (Both S T) (λ z. size z.1)
 second_within S T size m text z h = omega (arith, m h.1 z.1 h.4, ap (λ (l : List ℕ). length l) h.2, length-append h.0 h.1)
 
-made_within : {X Y : Type 0} (f : Y → X) (S : Form Y) (size : X → ℕ) → Measures S (λ y. size (f y)) → Measures (Made f S) size
+pub made_within : {X Y : Type 0} (f : Y → X) (S : Form Y) (size : X → ℕ) → Measures S (λ y. size (f y)) → Measures (Made f S) size
 made_within {X = X} f S size m text x h = omega (arith, m text h.0 h.1, ap size h.2)
 
-production_within : {X Y : Type 0} (IsTag : Form ℕ) (k : ℕ) (make : Y → X) (S : Form Y) (size : X → ℕ) → Measures S (λ y. size (make y)) → Measures (Production IsTag k make S) size
+pub production_within : {X Y : Type 0} (IsTag : Form ℕ) (k : ℕ) (make : Y → X) (S : Form Y) (size : X → ℕ) → Measures S (λ y. size (make y)) → Measures (Production IsTag k make S) size
 production_within IsTag k make S size m text x h = omega (arith, made_within make S size m h.1 x h.4, ap (λ (l : List ℕ). length l) h.2, length-append h.0 h.1)
 
-bytes_within : Measures (λ t b. IsBytes t b) (λ b. length b)
+pub bytes_within : Measures (λ t b. IsBytes t b) (λ b. length b)
 bytes_within text b h = omega (arith, ap (λ (l : List ℕ). length l) h.1, length-append h.0 b)
 
-name_within : Measures IsName (λ name. length name)
+pub name_within : Measures IsName (λ name. length name)
 name_within text name h = bytes_within text name h.0
 
 no_type : TakesSome (λ t type. IsValType t type)
@@ -123,24 +123,24 @@ no_type x h = let size : 0 ≡ 1 = ap (λ (l : List ℕ). length l) h in omega (
 no_expression : TakesSome (λ t code. IsExpression t code)
 no_expression x h = omega (arith, ap (λ (l : List ℕ). length l) h.1, length-append h.0 (0x0B ∷ []))
 
-result_within : Measures (λ t ts. IsResultType t ts) (λ ts. length ts)
+pub result_within : Measures (λ t ts. IsResultType t ts) (λ ts. length ts)
 result_within text ts h = vector_within (λ t type. IsValType t type) no_type ts text h
 
-functions_within : Measures (λ t init. AreFunctions t init) (λ init. length init)
+pub functions_within : Measures (λ t init. AreFunctions t init) (λ init. length init)
 functions_within text init h =
     omega (arith, vector_within (λ t n. IsU32 t n) (no_text (λ t n. IsU32 t n) (λ b. u32_at b) u32_exact none_u32) h.0 text h.1, ap (λ (l : List Code). length l) h.2, length-map h.0 function_reference)
 
-expressions_within : Measures (λ t init. AreExpressions t init) (λ init. length init)
+pub expressions_within : Measures (λ t init. AreExpressions t init) (λ init. length init)
 expressions_within text init h = vector_within (λ t code. IsExpression t code) no_expression init text h
 
-offset_within : {X : Type 0} (S : Form X) (size : X → ℕ) → Measures S size → Measures (λ t x. AtOffset S t x) (λ x. size x.1)
+pub offset_within : {X : Type 0} (S : Form X) (size : X → ℕ) → Measures S size → Measures (λ t x. AtOffset S t x) (λ x. size x.1)
 offset_within S size m text x h = second_within (λ t code. IsExpression t code) S size m text x h
 
-place_within : {X : Type 0} (S : Form X) (size : X → ℕ) → Measures S size → Measures (λ t x. AtPlace S t x) (λ x. size x.1.1)
+pub place_within : {X : Type 0} (S : Form X) (size : X → ℕ) → Measures S size → Measures (λ t x. AtPlace S t x) (λ x. size x.1.1)
 place_within S size m text x h = second_within (λ t n. IsU32 t n) (λ t y. AtOffset S t y) (λ y. size y.1) (offset_within S size m) text x h
 
-function_list_within : Measures (λ t x. IsFunctionList t x) (λ x. length x.1)
+pub function_list_within : Measures (λ t x. IsFunctionList t x) (λ x. length x.1)
 function_list_within text x h = omega (arith, functions_within h.1 x.1 h.4, ap (λ (l : List ℕ). length l) h.2, length-append h.0 h.1)
 
-expression_list_within : Measures (λ t x. IsExpressionList t x) (λ x. length x.1)
+pub expression_list_within : Measures (λ t x. IsExpressionList t x) (λ x. length x.1)
 expression_list_within text x h = omega (arith, expressions_within h.1 x.1 h.4, ap (λ (l : List ℕ). length l) h.2, length-append h.0 h.1)
