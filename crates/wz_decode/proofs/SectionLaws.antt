@@ -30,7 +30,7 @@ one_list S p exact some (x ∷ xs) (y ∷ ys) text h k =
     let others = one_list S p exact some xs ys h.1 h.4 (subst (λ (t : List ℕ). AreItems S t ys) (sym one.2) k.4) in
     rw (one.0, others) refl
 
-no_section : (s : Section) → IsSection [] s → ⊥
+pub no_section : (s : Section) → IsSection [] s → ⊥
 no_section s h =
     let first : h.1.0 ≡ [] = nil_first h.1.0 h.1.1 h.1.2 in
     let size : 0 ≡ 1 = ap length (sym first ∙ h.1.3.0) in

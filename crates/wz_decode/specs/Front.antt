@@ -1,11 +1,13 @@
 -- The first sections of a module while it is read.
-use Rattle.std.specs.Prelude.{◌≡◌, ◌⊎◌, ℕ, ◌<◌, List, [], ◌∷◌, ◌++◌}
+use Rattle.std.specs.Prelude.{◌≡◌, ◌⊎◌, ℕ, ◌<◌, List, [], ◌∷◌, ◌++◌, Option, IfSome, IsSome, IsTrue}
+use Rattle.std.specs.List.{list_any}
+use Rattle.wz_module.specs.Functions.{BodyTree}
 use Rattle.wz_module.specs.Sections.{Section, section_rank, ranks_of}
 use Rattle.wz_module.specs.Module.{Module}
 use Rattle.wz_decode.specs.Header.{header}
 use Rattle.wz_decode.specs.SectionForm.{AreSections}
 use Rattle.wz_decode.specs.Parts.{HasParts}
-use Rattle.wz_decode.specs.CountRules.{CountsAgree}
+use Rattle.wz_decode.specs.CountRules.{CountsAgree, code_names_data}
 use Rattle.wz_decode.specs.Contents.{IsInGrammar}
 
 -- the last of the numbers, or the one before them
@@ -35,3 +37,10 @@ pub record IsWhole (bytes : List ℕ) (m : Module) : Type 0 where
 -- and the counts of these parts don't agree
 abbrev pub HasBadCounts : List ℕ → Type 0
 HasBadCounts bytes = (m : Module) × IsWhole bytes m × (CountsAgree m → ⊥)
+
+-- a data count is this number, and one is there if the bodies want it
+abbrev pub HasCount : Option ℕ → ℕ → Type 0
+HasCount data_count datas = IfSome data_count (λ n. n ≡ datas)
+
+abbrev pub HasCountFor : Option ℕ → List BodyTree → Type 0
+HasCountFor data_count bodies = IsTrue (list_any (λ body. code_names_data body.1) bodies) → IsSome data_count

@@ -1,13 +1,16 @@
 //! The rules between sections (Core Specification 2.0, section 5.5.16).
 
-ghost use Rattle.std.specs.Prelude.{◌≡◌, map};
+ghost use Rattle.std.specs.Prelude.{◌≡◌, ℕ, map, IfSome, IsSome, IsTrue, MatchBool};
 ghost use Rattle.std.specs.List.{list_any};
 ghost use Rattle.wz_code.specs.BodyParts.{block_at};
 ghost use Rattle.wz_code.specs.Trees.{tree_of};
 ghost use Rattle.wz_module.specs.Functions.{body_tree_of};
-ghost use Rattle.wz_decode.specs.CountRules.{names_data as does_name_data, code_names_data};
+ghost use Rattle.wz_module.specs.Views.{module_with};
+ghost use Rattle.wz_decode.specs.CountRules.{names_data as does_name_data, code_names_data, CountsAgree};
+ghost use Rattle.wz_decode.specs.Front.{HasCount, HasCountFor};
 
 use wz_code::{Body, Instr};
+use wz_module::ModuleParts;
 
 fn names_data(instr: &Instr) -> bool
     ensures { result ≡ does_name_data instr.now }
@@ -55,4 +58,37 @@ pub(crate) fn any_names_data(bodies: &[Body]) -> bool
         found = found || body_names_data(body);
     }
     found
+}
+
+/// Whether a data count is this number of data segments.
+fn is_count(data_count: Option<u32>, datas: usize) -> bool
+    ensures { MatchBool result (HasCount data_count datas) (HasCount data_count datas → ⊥) }
+{
+    match data_count {
+        Some(count) => count as usize == datas,
+        None => true,
+    }
+}
+
+/// Whether there is a data count if the bodies want one.
+fn is_there_for(data_count: Option<u32>, bodies: &[Body]) -> bool
+    ensures { let there = HasCountFor data_count (map body_tree_of bodies.now) in MatchBool result there (there → ⊥) }
+{
+    match data_count {
+        Some(_) => true,
+        None => !any_names_data(bodies),
+    }
+}
+
+/// Whether the rules between sections hold.
+pub(crate) fn counts_agree(parts: &ModuleParts<'_>) -> bool
+    ensures { let agree = CountsAgree (module_with parts.now) in MatchBool result agree (agree → ⊥) }
+{
+    if parts.functions.len() != parts.bodies.len() {
+        return false;
+    }
+    if !is_count(parts.data_count, parts.datas.len()) {
+        return false;
+    }
+    is_there_for(parts.data_count, parts.bodies.as_slice())
 }

@@ -9,7 +9,7 @@ ghost use Rattle.wz_decode.specs.Header.{header};
 ghost use Rattle.wz_decode.specs.SectionForm.{section_at};
 ghost use Rattle.wz_decode.specs.Contents.{IsInGrammar, IsBadSection};
 ghost use Rattle.wz_decode.specs.Front.{HasFront, MayFollow, IsWhole};
-ghost use Rattle.wz_decode.specs.declared.fault.DecodeFault.TheVariants.{NotWasm, BadSection};
+ghost use Rattle.wz_decode.specs.declared.fault.DecodeFault.TheVariants.{NotWasm, BadSection, BadCounts};
 
 use crate::code::{take_bodies, take_data_count, take_datas};
 use crate::declarations::{take_functions, take_imports, take_memories, take_tables, take_types};
@@ -111,6 +111,7 @@ pub(crate) fn read_parts(alloc: Global, bytes: &[u8]) -> Result<ModuleParts<'_>,
     ensures found { IfOk result (λ parts. IsWhole bytes.now (module_with parts)) }
     ensures not_wasm { IsErrOf result NotWasm → (rest : List ℕ) → bytes.now ≢ header ++ rest }
     ensures bad { (at : ℕ) → IsErrOf result (BadSection at) → IsBadSection bytes.now at }
+    ensures counts { IsErrOf result BadCounts → ⊥ }
 {
     let [0x00, 0x61, 0x73, 0x6D, 0x01, 0x00, 0x00, 0x00, rest @ ..] = bytes else {
         return Err(DecodeFault::NotWasm);
