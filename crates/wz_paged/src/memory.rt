@@ -1,10 +1,10 @@
-//! The memory.
+//! The memory, seen as the list of its bytes.
 
 ghost use Rattle.std.specs.Prelude.{◌≡◌, ◌+◌, ◌*◌, ◌^◌, ◌<◌, ◌≤◌, ◌++◌, length, replicate, IsTrue, IfSome, IfOk, OnOk, OnErr, SomeIff, ◌↔◌};
 ghost use Rattle.std.specs.Bool.{OnTrue, OnFalse};
 ghost use Rattle.std.specs.List.{All};
 ghost use Rattle.wz_linear.specs.Bytes.{IsAccessWidth, number_of, bytes_of, part, written};
-ghost use Rattle.wz_paged.specs.Pages.{whole, AreOctets};
+ghost use Rattle.wz_paged.specs.Pages.{memory_of, AreOctets};
 
 use crate::page::Page;
 use crate::pages::SIZE;
@@ -13,8 +13,8 @@ use std::alloc::{AllocError, Global};
 use std::marker::Model;
 use wz_linear::{Linear, number_at};
 
-/// A memory in pages that are made when they are first written. Contracts see it as the list of its
-/// bytes.
+/// A memory in pages, each made when a byte that isn't zero is first written to it. Contracts see it
+/// as the list of its bytes.
 #[derive(Drop)]
 pub struct PagedMemory {
     alloc: Global,
@@ -23,14 +23,14 @@ pub struct PagedMemory {
 
 impl Model for PagedMemory {
     ghost use Rattle.std.specs.Prelude.{◌≤◌, ℕ, List, length};
-    ghost use Rattle.wz_paged.specs.Pages.{whole, AreOctets};
+    ghost use Rattle.wz_paged.specs.Pages.{memory_of, AreOctets};
 
     ghost Value = { List ℕ };
 
-    ghost view = { λ memory. whole 65536 memory.pages.items };
+    ghost view = { λ memory. memory_of memory.pages.items };
 
     ghost invariant = { λ memory. (length memory.pages.items ≤ 65536)
-        × AreOctets (whole 65536 memory.pages.items) };
+        × AreOctets (memory_of memory.pages.items) };
 }
 
 /// The place as an index, where a range of so many bytes from there ends within the pages.
@@ -51,7 +51,8 @@ fn index_of(pages: &[Page], at: u64, len: u64) -> Option<usize>
 fn load_inside(pages: &[Page], at: u64, width: u32) -> Option<u64>
     requires { IsAccessWidth width }
     ensures within { IfSome result (λ _. at + width ≤ length pages.now * 65536) }
-    ensures found { IfSome result (λ number. number ≡ number_of (part (whole 65536 pages.now) at width)) }
+    ensures found { IfSome result
+        (λ number. number ≡ number_of (part (memory_of pages.now) at width)) }
     ensures narrow { IfSome result (λ number. number < 256 ^ width) }
 {
     let i = (at / SIZE as u64) as usize;
@@ -67,7 +68,7 @@ fn load_inside(pages: &[Page], at: u64, width: u32) -> Option<u64>
 fn is_absent_at(pages: &[Page], at: u64, width: u32) -> bool
     requires { IsAccessWidth width }
     ensures within { OnTrue result (at + width ≤ length pages.now * 65536) }
-    ensures zero { OnTrue result (number_of (part (whole 65536 pages.now) at width) ≡ 0) }
+    ensures zero { OnTrue result (number_of (part (memory_of pages.now) at width) ≡ 0) }
 {
     let i = (at / SIZE as u64) as usize;
     let place = (at % SIZE as u64) as usize;
@@ -80,14 +81,14 @@ fn is_absent_at(pages: &[Page], at: u64, width: u32) -> bool
     true
 }
 
-/// The number at a place, wherever it lies.
+/// The number at a place, wherever it lies. A page that isn't made gives zero without being made.
 #[cold]
 #[inline(never)]
 fn load_across(pages: &[Page], at: u64, width: u32) -> Option<u64>
     requires width { IsAccessWidth width }
     requires bounded { length pages.now ≤ 65536 }
     ensures found { SomeIff result
-        (at + width ≤ length pages.now * 65536) (number_of (part (whole 65536 pages.now) at width)) }
+        (at + width ≤ length pages.now * 65536) (number_of (part (memory_of pages.now) at width)) }
     ensures narrow { IfSome result (λ number. number < 256 ^ width) }
 {
     if is_absent_at(pages, at, width) {
@@ -106,9 +107,9 @@ fn store_inside(pages: &mut [Page], at: u64, value: u64, width: u32) -> bool
     requires { IsAccessWidth width }
     ensures within { OnTrue result (at + width ≤ length pages.old * 65536) }
     ensures stored { OnTrue result
-        (whole 65536 pages.new ≡ written (whole 65536 pages.old) at (bytes_of width value)) }
-    ensures outside { OnFalse result (whole 65536 pages.new ≡ whole 65536 pages.old) }
-    ensures octets { AreOctets (whole 65536 pages.old) → AreOctets (whole 65536 pages.new) }
+        (memory_of pages.new ≡ written (memory_of pages.old) at (bytes_of width value)) }
+    ensures outside { OnFalse result (memory_of pages.new ≡ memory_of pages.old) }
+    ensures octets { AreOctets (memory_of pages.old) → AreOctets (memory_of pages.new) }
 {
     let i = (at / SIZE as u64) as usize;
     if i >= pages.len() {
@@ -129,15 +130,16 @@ fn store_across(pages: &mut [Page], at: u64, value: u64, width: u32) -> Result<b
     requires bounded { length pages.old ≤ 65536 }
     ensures within { IfOk result (λ done. IsTrue done ↔ (at + width ≤ length pages.old * 65536)) }
     ensures stored { IfOk result (λ done. OnTrue done
-        (whole 65536 pages.new ≡ written (whole 65536 pages.old) at (bytes_of width value))) }
-    ensures outside { IfOk result (λ done. OnFalse done (whole 65536 pages.new ≡ whole 65536 pages.old)) }
-    ensures refused { OnErr result (whole 65536 pages.new ≡ whole 65536 pages.old) }
-    ensures octets { AreOctets (whole 65536 pages.old) → AreOctets (whole 65536 pages.new) }
+        (memory_of pages.new ≡ written (memory_of pages.old) at (bytes_of width value))) }
+    ensures outside { IfOk result (λ done. OnFalse done
+        (memory_of pages.new ≡ memory_of pages.old)) }
+    ensures refused { OnErr result (memory_of pages.new ≡ memory_of pages.old) }
+    ensures octets { AreOctets (memory_of pages.old) → AreOctets (memory_of pages.new) }
 {
     match index_of(pages, at, u64::from(width)) {
         Some(at) => {
             let bytes = value.to_le_bytes();
-            pages::put(pages, at, &bytes[..width as usize])?;
+            pages::write(pages, at, &bytes[..width as usize])?;
             Ok(true)
         }
         None => Ok(false),
@@ -148,10 +150,11 @@ fn store_across(pages: &mut [Page], at: u64, value: u64, width: u32) -> Result<b
 fn add_absent(alloc: Global, pages: &mut Vec<Page>, count: usize) -> Result<(), AllocError>
     requires { length pages.old.items + count ≤ 65536 }
     ensures added { OnOk result
-        (whole 65536 pages.new.items ≡ whole 65536 pages.old.items ++ replicate (count * 65536) 0) }
+        (memory_of pages.new.items ≡ memory_of pages.old.items ++ replicate (count * 65536) 0) }
     ensures long { OnOk result (length pages.new.items ≡ length pages.old.items + count) }
     ensures refused { OnErr result (pages.new.items ≡ pages.old.items) }
-    ensures octets { AreOctets (whole 65536 pages.old.items) → AreOctets (whole 65536 pages.new.items) }
+    ensures octets { AreOctets (memory_of pages.old.items)
+        → AreOctets (memory_of pages.new.items) }
 {
     let len = pages.len();
     pages.try_reserve_exact(count)?;
@@ -167,7 +170,8 @@ fn add_absent(alloc: Global, pages: &mut Vec<Page>, count: usize) -> Result<(), 
 /// Whether a page has not been made.
 fn is_untouched(pages: &[Page], i: usize) -> bool
     requires { i < length pages.now }
-    ensures { OnTrue result (All (λ byte. byte ≡ 0) (part (whole 65536 pages.now) (i * 65536) 65536)) }
+    ensures { OnTrue result
+        (All (λ byte. byte ≡ 0) (part (memory_of pages.now) (i * 65536) 65536)) }
 {
     if pages[i].is_made() {
         return false;
@@ -175,7 +179,7 @@ fn is_untouched(pages: &[Page], i: usize) -> bool
     true
 }
 
-#[tactic(auto, using(crate::proofs::PageLemmas::whole_length))]
+#[tactic(auto, using(crate::proofs::PageLemmas::pages_length))]
 impl Linear for PagedMemory {
     ghost contents = { λ memory. memory };
 
@@ -236,7 +240,7 @@ impl Linear for PagedMemory {
     fn write_slice(&mut self, at: u64, bytes: &[u8]) -> Result<bool, AllocError> {
         match index_of(&self.pages, at, bytes.len() as u64) {
             Some(at) => {
-                pages::put(&mut self.pages, at, bytes)?;
+                pages::write(&mut self.pages, at, bytes)?;
                 Ok(true)
             }
             None => Ok(false),

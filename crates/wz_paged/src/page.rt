@@ -1,10 +1,10 @@
-//! One page.
+//! One page of a memory.
 
 ghost use Rattle.std.specs.Prelude.{◌≡◌, ◌+◌, ◌^◌, ◌<◌, ◌≤◌, [], length, replicate, IfSome, OnOk, OnErr};
 ghost use Rattle.std.specs.Bool.{OnTrue, OnFalse};
 ghost use Rattle.std.specs.List.{All};
 ghost use Rattle.wz_linear.specs.Bytes.{IsAccessWidth, number_of, bytes_of, part, written};
-ghost use Rattle.wz_paged.specs.Pages.{page_of};
+ghost use Rattle.wz_paged.specs.Pages.{memory_of_page};
 
 use std::alloc::{AllocError, Global};
 use std::marker::Model;
@@ -48,7 +48,7 @@ impl Page {
     /// Makes the page where it has not been made. What it holds stays.
     pub fn make(&mut self) -> Result<(), AllocError>
         ensures made { OnOk result (length self.new ≡ 65536) }
-        ensures same { page_of 65536 self.new ≡ page_of 65536 self.old }
+        ensures same { memory_of_page self.new ≡ memory_of_page self.old }
         ensures refused { OnErr result (self.new ≡ self.old) }
     {
         if self.bytes.len() == 0 {
@@ -60,7 +60,7 @@ impl Page {
     /// The bytes from a place on, as many as `out` takes.
     pub fn read(&self, at: usize, out: &mut [u8])
         requires { at + length out.old ≤ 65536 }
-        ensures { out.new ≡ part (page_of 65536 self.now) at (length out.old) }
+        ensures { out.new ≡ part (memory_of_page self.now) at (length out.old) }
     {
         if self.bytes.len() == 0 {
             out.fill(0);
@@ -73,7 +73,7 @@ impl Page {
     pub fn write(&mut self, at: usize, bytes: &[u8])
         requires within { at + length bytes.now ≤ 65536 }
         requires ready { length self.old ≡ 0 → All (λ byte. byte ≡ 0) bytes.now }
-        ensures written { page_of 65536 self.new ≡ written (page_of 65536 self.old) at bytes.now }
+        ensures written { memory_of_page self.new ≡ written (memory_of_page self.old) at bytes.now }
         ensures kept { length self.new ≡ length self.old }
     {
         if self.bytes.len() != 0 {
@@ -85,7 +85,8 @@ impl Page {
     pub fn fill(&mut self, at: usize, count: usize, byte: u8)
         requires within { at + count ≤ 65536 }
         requires ready { length self.old ≡ 0 → byte ≡ 0 }
-        ensures written { page_of 65536 self.new ≡ written (page_of 65536 self.old) at (replicate count byte) }
+        ensures written { memory_of_page self.new
+            ≡ written (memory_of_page self.old) at (replicate count byte) }
         ensures kept { length self.new ≡ length self.old }
     {
         if self.bytes.len() != 0 {
@@ -96,7 +97,7 @@ impl Page {
     /// Whether a range is known to hold zeros alone.
     pub fn has_zeros(&self, at: usize, count: usize) -> bool
         requires { at + count ≤ 65536 }
-        ensures { OnTrue result (All (λ byte. byte ≡ 0) (part (page_of 65536 self.now) at count)) }
+        ensures { OnTrue result (All (λ byte. byte ≡ 0) (part (memory_of_page self.now) at count)) }
     {
         if self.bytes.len() == 0 {
             return true;
@@ -108,8 +109,10 @@ impl Page {
     pub fn copy_from(&mut self, at: usize, source: &Page, from: usize, count: usize)
         requires within { at + count ≤ 65536 }
         requires from { from + count ≤ 65536 }
-        requires ready { length self.old ≡ 0 → All (λ byte. byte ≡ 0) (part (page_of 65536 source.now) from count) }
-        ensures written { page_of 65536 self.new ≡ written (page_of 65536 self.old) at (part (page_of 65536 source.now) from count) }
+        requires ready { length self.old ≡ 0
+            → All (λ byte. byte ≡ 0) (part (memory_of_page source.now) from count) }
+        ensures written { memory_of_page self.new
+            ≡ written (memory_of_page self.old) at (part (memory_of_page source.now) from count) }
         ensures kept { length self.new ≡ length self.old }
     {
         if source.bytes.len() != 0 {
@@ -123,7 +126,8 @@ impl Page {
     pub fn copy_within(&mut self, to: usize, from: usize, count: usize)
         requires within { to + count ≤ 65536 }
         requires from { from + count ≤ 65536 }
-        ensures written { page_of 65536 self.new ≡ written (page_of 65536 self.old) to (part (page_of 65536 self.old) from count) }
+        ensures written { memory_of_page self.new
+            ≡ written (memory_of_page self.old) to (part (memory_of_page self.old) from count) }
         ensures kept { length self.new ≡ length self.old }
     {
         if self.bytes.len() != 0 {
@@ -137,7 +141,8 @@ impl Page {
         requires width { IsAccessWidth width }
         requires within { at < 65536 }
         ensures inside { IfSome result (λ _. at + width ≤ 65536) }
-        ensures found { IfSome result (λ number. number ≡ number_of (part (page_of 65536 self.now) at width)) }
+        ensures found { IfSome result
+            (λ number. number ≡ number_of (part (memory_of_page self.now) at width)) }
         ensures narrow { IfSome result (λ number. number < 256 ^ width) }
     {
         if at + width as usize <= self.bytes.len() {
@@ -153,8 +158,8 @@ impl Page {
         requires width { IsAccessWidth width }
         requires within { at < 65536 }
         ensures inside { OnTrue result (at + width ≤ 65536) }
-        ensures stored { OnTrue result
-            (page_of 65536 self.new ≡ written (page_of 65536 self.old) at (bytes_of width value)) }
+        ensures stored { OnTrue result (memory_of_page self.new
+            ≡ written (memory_of_page self.old) at (bytes_of width value)) }
         ensures outside { OnFalse result (self.new ≡ self.old) }
     {
         if at + width as usize <= self.bytes.len() {
@@ -210,7 +215,8 @@ fn fill_in(bytes: &mut Vec<u8>, at: usize, count: usize, byte: u8)
 fn copy_in(bytes: &mut Vec<u8>, to: usize, from: usize, count: usize)
     requires within { to + count ≤ length bytes.old.items }
     requires from { from + count ≤ length bytes.old.items }
-    ensures written { bytes.new.items ≡ written bytes.old.items to (part bytes.old.items from count) }
+    ensures written { bytes.new.items
+        ≡ written bytes.old.items to (part bytes.old.items from count) }
     ensures kept { length bytes.new.items ≡ length bytes.old.items }
 {
     bytes.copy_within(from..from + count, to);
