@@ -13,8 +13,8 @@ use std::alloc::{AllocError, Global};
 use std::marker::Model;
 use wz_linear::{Linear, number_at};
 
-/// A memory in pages, each made when a byte that isn't zero is first written to it. Contracts see it
-/// as the list of its bytes.
+/// A memory in pages, each made when a byte that isn't zero is first written to it. Contracts see
+/// it as the list of its bytes.
 #[derive(Drop)]
 pub struct PagedMemory {
     alloc: Global,
@@ -75,6 +75,7 @@ fn is_absent_at(pages: &[Page], at: u64, width: u32) -> bool
     if i >= pages.len() || place + width as usize > SIZE {
         return false;
     }
+    // By cases, so that each is a goal of its own in the proof.
     if pages[i].is_made() {
         return false;
     }
@@ -173,6 +174,7 @@ fn is_untouched(pages: &[Page], i: usize) -> bool
     ensures { OnTrue result
         (All (λ byte. byte ≡ 0) (part (memory_of pages.now) (i * 65536) 65536)) }
 {
+    // By cases, so that each is a goal of its own in the proof.
     if pages[i].is_made() {
         return false;
     }

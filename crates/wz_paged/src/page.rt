@@ -51,7 +51,7 @@ impl Page {
         ensures same { memory_of_page self.new ≡ memory_of_page self.old }
         ensures refused { OnErr result (self.new ≡ self.old) }
     {
-        if self.bytes.len() == 0 {
+        if !self.is_made() {
             make_zeros(&mut self.bytes, PAGE_SIZE as usize)?;
         }
         Ok(())

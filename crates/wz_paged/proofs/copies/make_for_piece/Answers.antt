@@ -10,7 +10,8 @@ use Rattle.wz_paged.proofs.copies.make_for_piece.Goals as goal
 pub returns-then-has_zeros-clause-ready : goal.returns-then-has_zeros-clause-ready
 returns-then-has_zeros-clause-ready c =
     let here = get_or_default c.args.pages.now (c.args.from / 65536) c.index-pages-from.result [] c.requires.from in
-    let same : part (memory_of c.args.pages.now) c.args.from c.args.count ≡ part (memory_of_page (get_or c.args.pages.now (c.args.from / 65536) c.index-pages-from.result)) (c.args.from % 65536) c.args.count =
+    let same : part (memory_of c.args.pages.now) c.args.from c.args.count ≡ part (memory_of_page (get_or c.args.pages.now (c.args.from / 65536) c.index-pages-from.result))
+    (c.args.from % 65536) c.args.count =
     part_pages 65536 c.args.pages.now c.args.from (c.args.from / 65536) (c.args.from % 65536) c.args.count (omega arith) c.requires.from_inside c.requires.from
     ∙ ap (λ p. part (memory_of_page p) (c.args.from % 65536) c.args.count) (sym here) in
     ready_all c.args.pages.now c.args.to (part (memory_of c.args.pages.now) c.args.from c.args.count)

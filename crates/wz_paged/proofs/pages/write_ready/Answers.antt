@@ -17,7 +17,8 @@ loop-done-preserved c = record {
   within = omega arith;
   written =
       c.write_piece.ensures.written
-      ∙ ap (λ m. written m (c.args.at + c.loop-done.done) (take (c.loop-done.done + c.count_in_page-count.result - c.loop-done.done) (drop c.loop-done.done c.args.bytes.now))) c.loop-done.invariant.written
+      ∙ ap (λ m. written m (c.args.at + c.loop-done.done) (take (c.loop-done.done + c.count_in_page-count.result - c.loop-done.done) (drop c.loop-done.done c.args.bytes.now)))
+      c.loop-done.invariant.written
       ∙ written_more (memory_of c.args.pages.now) c.args.bytes.now c.args.at c.loop-done.done _ _ (omega (arith, length-memory_of c.args.pages.now)) (omega arith) (omega arith);
   kept = λ i. c.write_piece.ensures.kept i ∙ c.loop-done.invariant.kept i;
 }
