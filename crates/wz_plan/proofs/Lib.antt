@@ -5,6 +5,7 @@ pub mod FewLemmas
 pub mod FirstRunLemmas
 pub mod GapLemmas
 pub mod JoinLemmas
+pub mod LaneLemmas
 pub mod PlaceLemmas
 pub mod PlanLemmas
 pub mod ScanLemmas

@@ -9,6 +9,7 @@
 #![tactic(auto)]
 
 mod choice;
+mod lanes;
 pub mod laws;
 mod ranges;
 mod runs;

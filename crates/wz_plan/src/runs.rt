@@ -5,6 +5,8 @@ ghost use Rattle.std.specs.List.{All};
 ghost use Rattle.wz_plan.specs.Ranges.{end_of, hull};
 ghost use Rattle.wz_plan.specs.Scanned.{IsFirstRun};
 
+use crate::lanes::{nonzeros_by_lanes, zeros_by_lanes};
+
 /// A range of places in a memory: its first place, and its length in bytes.
 #[derive(Clone, Copy, Debug, PartialEq, Eq)]
 pub struct Run {
@@ -55,11 +57,33 @@ fn first_nonzero(bytes: &[u8]) -> Option<usize>
     ensures here { IfSome result (λ place. slice_index bytes.now place ≢ 0) }
     ensures before { IfSome result (λ place. (k : ℕ) → k < place → slice_index bytes.now k ≡ 0) }
 {
+    let at = zeros_by_lanes(bytes);
+    let rest = first_nonzero_by_byte(&bytes[at..])?;
+    Some(at + rest)
+}
+
+/// The same, where one byte is looked at after the other.
+fn first_nonzero_by_byte(bytes: &[u8]) -> Option<usize>
+    ensures none { IsNone result ↔ All (λ byte. byte ≡ 0) bytes.now }
+    ensures within { IfSome result (λ place. place < length bytes.now) }
+    ensures here { IfSome result (λ place. slice_index bytes.now place ≢ 0) }
+    ensures before { IfSome result (λ place. (k : ℕ) → k < place → slice_index bytes.now k ≡ 0) }
+{
     bytes.iter().position(|byte| *byte != 0)
 }
 
 /// How many bytes at the front aren't zero.
 fn nonzero_len(bytes: &[u8]) -> usize
+    ensures within { result ≤ length bytes.now }
+    ensures before { (k : ℕ) → k < result → slice_index bytes.now k ≢ 0 }
+    ensures ends { slice_index bytes.now result ≡ 0 }
+{
+    let at = nonzeros_by_lanes(bytes);
+    at + nonzero_len_by_byte(&bytes[at..])
+}
+
+/// The same, where one byte is looked at after the other.
+fn nonzero_len_by_byte(bytes: &[u8]) -> usize
     ensures within { result ≤ length bytes.now }
     ensures before { (k : ℕ) → k < result → slice_index bytes.now k ≢ 0 }
     ensures ends { slice_index bytes.now result ≡ 0 }

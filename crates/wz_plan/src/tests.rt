@@ -81,7 +81,11 @@ fn agrees(rt: &impl Abort, alloc: Global, gaps: &[usize], limit: u32) -> Result<
     let (front, back) = bytes.split_at(bytes.len() / 2);
     let chosen = chosen_of(alloc, front, back, limit)?;
     let wanted = plan_by_places(alloc, &bytes, limit)?;
-    assert_eq!(rt; chosen.as_slice(), wanted.as_slice());
+    assert_eq!(rt;
+        chosen.as_slice(),
+        wanted.as_slice(),
+        "gaps {gaps:?}, limit {limit}"
+    );
     Ok(())
 }
 
@@ -174,7 +178,34 @@ fn more_gaps_than_the_limit(rt: HostRuntime) -> Result<(), Fail> {
                 len: 1,
             },
         };
-        assert_eq!(rt; *range, wanted);
+        assert_eq!(rt; *range, wanted, "range {i}");
+    }
+    Ok(())
+}
+
+/// The only non-zero byte at each end of bytes that fill lanes, nearly fill them, or go past them.
+#[test]
+fn runs_at_the_ends_of_lanes(rt: HostRuntime) -> Result<(), Fail> {
+    assert_eq!(rt; next_run(&[], 0), None);
+    for len in [1, 63, 64, 65, 128] {
+        assert!(rt; len > 0 && len <= 128);
+        let mut bytes = Vec::from_elem(rt.alloc(), 0u8, len)?;
+        assert_eq!(rt; bytes.len(), len, "{len} bytes");
+        assert_eq!(rt; next_run(&bytes, 0), None, "{len} zeros");
+        bytes[0] = 7;
+        assert_eq!(rt;
+            next_run(&bytes, 0),
+            Some(Run { at: 0, len: 1 }),
+            "first of {len}"
+        );
+        bytes[0] = 0;
+        bytes[len - 1] = 7;
+        let at = len as u32 - 1;
+        assert_eq!(rt;
+            next_run(&bytes, 0),
+            Some(Run { at, len: 1 }),
+            "last of {len}"
+        );
     }
     Ok(())
 }
