@@ -1,0 +1,8 @@
+//! The words of the command line: what a run is to do, or the first word that is at fault.
+//!
+//! `settings` says it of the words alone, by the rules of the options; `read_words` gives it.
+#![tactic(auto)]
+
+mod settings;
+
+pub use settings::{InputFrom, OutputTo, Rename, Settings, Usage};
