@@ -1,0 +1,11 @@
+pub mod Sections
+pub mod Imports
+pub mod Exports
+pub mod Functions
+pub mod Globals
+pub mod Elements
+pub mod Datas
+pub mod Module
+pub mod ShortLists
+pub mod Views
+pub mod Meaning
