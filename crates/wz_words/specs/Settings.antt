@@ -68,9 +68,9 @@ first_value (value ∷ values) = Some value
 abbrev pub is_stream : List ℕ → Bool
 is_stream word = same_text word (codes "-")
 
-abbrev pub input_of : Option (List ℕ) → InputFrom
-input_of None = input.Standard
-input_of (Some word) = if is_stream word then input.Standard else input.Path word
+abbrev pub operand_input : Option (List ℕ) → InputFrom
+operand_input None = input.Standard
+operand_input (Some word) = if is_stream word then input.Standard else input.Path word
 
 abbrev pub output_of : Option (List ℕ) → OutputTo
 output_of None = output.Standard
@@ -78,7 +78,7 @@ output_of (Some word) = if is_stream word then output.Standard else output.Path 
 
 -- the sample goes before an operand, which doesn't stand beside it
 abbrev pub input_or_sample : Option ℕ → Option (List ℕ) → InputFrom
-input_or_sample None operand = input_of operand
+input_or_sample None operand = operand_input operand
 input_or_sample (Some number) operand = input.Sample number
 
 -- the number that the value of an option is, if it is there
@@ -101,8 +101,15 @@ pub record Settings : Type 0 where
 -- what the code's struct says
 abbrev pub settings_of : code.Settings → Settings
 settings_of s = record {
-  input = s.input; output = s.output; function = s.function; renames = s.renames.items; fuel = s.fuel;
-  keep_init = s.keep_init; reactor = s.reactor; report = s.report; prune = s.prune;
+  input = s.input;
+  output = s.output;
+  function = s.function;
+  renames = s.renames.items;
+  fuel = s.fuel;
+  keep_init = s.keep_init;
+  reactor = s.reactor;
+  report = s.report;
+  prune = s.prune;
 }
 
 abbrev pub default_function : List ℕ

@@ -3,6 +3,14 @@
 //! `settings` says it of the words alone, by the rules of the options; `read_words` gives it.
 #![tactic(auto)]
 
+mod draft;
+mod finish;
+mod left;
+mod numbers;
+mod options;
+mod read;
+mod renames;
 mod settings;
 
+pub use read::read_words;
 pub use settings::{InputFrom, OutputTo, Rename, Settings, Usage};
