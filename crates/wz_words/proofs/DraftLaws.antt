@@ -1,15 +1,15 @@
 -- The draft is what the parts before it say, so that what comes of the parts by the draft is `settings`.
-use Rattle.std.proofs.Common.{◌≡◌, ℕ, suc, ◌+◌, ◌<◌, Bool, true, false, cond, List, [], ◌∷◌, ◌++◌, length, Option, Some, None, Result, Ok, Err, refl, sym, ap, subst, ◌∙◌, append_assoc, arith}
-use Rattle.std.specs.Prelude.{◌&&◌, ◌||◌, is_some, nat_lt}
+use Rattle.std.proofs.Common.{◌≡◌, ℕ, ◌+◌, Bool, true, false, cond, List, [], ◌∷◌, ◌++◌, length, Option, Some, None, Result, Ok, refl, sym, ap, ◌∙◌, append_assoc, arith}
+use Rattle.std.specs.Prelude.{◌||◌, is_some}
 use Rattle.std.proofs.lemmas.List.{append-nil}
 use Rattle.wz_words.specs.declared.settings.Rename.{Rename}
 use Rattle.wz_words.specs.declared.settings.Usage.{Usage}
 use Rattle.wz_words.specs.declared.settings.Usage.TheVariants.{MissingValue, RepeatedOption, ExtraWord}
 use Rattle.wz_words.specs.Options.{Flag, KeepInit, Reactor, Report, Valued, Output, Function, RenameFunction, Fuel, SampleNumber, same_flag, same_valued, decimal}
 use Rattle.wz_words.specs.Parts.{Part, Operand, FlagPart, ValuedPart, UnknownPart, Halves, halves_of, parts_of}
-use Rattle.wz_words.specs.Settings.{Settings, operand_in, has_flag, has_option, values_of, renames_of, with_halves, rename_of, first_value, number_of_value, asked}
+use Rattle.wz_words.specs.Settings.{Settings, operand_in, has_flag, has_option, values_of, renames_of, with_halves, first_value, number_of_value, asked}
 use Rattle.wz_words.specs.Faults.{number_fault, fuel_limit, sample_limit, rename_fault, value_part_fault, bytes_in, is_extra, is_repeated, is_sample_beside, fault_of, first_fault, or_later, unless_fault, settings}
-use Rattle.wz_words.specs.Draft.{Draft, empty_draft, fault_in, with_part, value_part_fault_in, rename_fault_in, fault_or, outcome_from, draft_asks}
+use Rattle.wz_words.specs.Draft.{Draft, empty_draft, fault_in, with_part, rename_fault_in, fault_or, outcome_from, draft_asks}
 
 -- ---- lists of parts, joined
 
@@ -116,7 +116,8 @@ IsNumber option before number = (has_option option before ≡ is_some number) ×
 abbrev AreRenames : List Part → List Rename → ℕ → Type 0
 AreRenames before renames bytes = (renames_of (values_of RenameFunction before) ≡ renames) × (bytes_in (values_of RenameFunction before) ≡ bytes)
 
-operand_kept : (before : List Part) (part : Part) (operand : Option (List ℕ)) → operand_in (part ∷ []) ≡ None → operand_in before ≡ operand → operand_in (before ++ part ∷ []) ≡ operand
+operand_kept : (before : List Part) (part : Part) (operand : Option (List ℕ)) → operand_in (part ∷ []) ≡ None → operand_in before ≡ operand
+    → operand_in (before ++ part ∷ []) ≡ operand
 operand_kept before part operand e h = operand_joined before (part ∷ []) e ∙ h
 
 flag_kept : (flag : Flag) (before : List Part) (part : Part) (b : Bool) → has_flag flag (part ∷ []) ≡ false → has_flag flag before ≡ b → has_flag flag (before ++ part ∷ []) ≡ b
@@ -244,6 +245,21 @@ number_there : (at limit : ℕ) (number : Option ℕ) → number_fault at limit 
 number_there at limit None e = absurd cc
 number_there at limit (Some n) e = refl
 
+not_repeated : (before : List Part) (at : ℕ) (option : Valued) (value : Option (ℕ × List ℕ)) → fault_of before (ValuedPart at option value) ≡ None → is_repeated before option ≡ false
+not_repeated before at option value none =
+    let later = cond (is_sample_beside before option) (Some (ExtraWord at)) (value_part_fault before at option value) in
+    test_false (is_repeated before option) (RepeatedOption at) later none
+
+value_fault_none : (before : List Part) (at : ℕ) (option : Valued) (value : Option (ℕ × List ℕ)) → fault_of before (ValuedPart at option value) ≡ None
+    → value_part_fault before at option value ≡ None
+value_fault_none before at option value none =
+    let later = cond (is_sample_beside before option) (Some (ExtraWord at)) (value_part_fault before at option value) in
+    test_later (is_sample_beside before option) (ExtraWord at) (value_part_fault before at option value) (test_later (is_repeated before option) (RepeatedOption at) later none)
+
+no_operand : (before : List Part) (at : ℕ) (word : List ℕ) → fault_of before (Operand at word) ≡ None → operand_in before ≡ None
+no_operand before at word none =
+    none_there (operand_in before) (or_left (is_some (operand_in before)) (has_option SampleNumber before) (test_false (is_extra before) (ExtraWord at) None none))
+
 never : {X : Type 0} (at : ℕ) → (let fault : Option Usage = Some (MissingValue at) in fault ≡ None) → X
 never at e = absurd cc
 
@@ -251,7 +267,7 @@ shows_more : (before : List Part) (d : Draft) (part : Part) → Shows before d �
 shows_more before d (Operand at word) h none =
     let part = Operand at word in
     record {
-      operand = operand_added before at word (none_there (operand_in before) (or_left (is_some (operand_in before)) (has_option SampleNumber before) (test_false (is_extra before) _ _ none)));
+      operand = operand_added before at word (no_operand before at word none);
       keep_init = flag_kept KeepInit before part d.keep_init refl h.keep_init;
       reactor = flag_kept Reactor before part d.reactor refl h.reactor;
       report = flag_kept Report before part d.report refl h.report;
@@ -300,7 +316,7 @@ shows_more before d (FlagPart at Report) h none =
       sample = number_kept SampleNumber before part d.sample refl refl h.sample;
       renames = renames_kept before part d.renames d.bytes refl h.renames;
     }
-shows_more before d (ValuedPart at Output None) h none = never at (test_later (is_sample_beside before Output) (ExtraWord at) (Some (MissingValue at)) (test_later (is_repeated before Output) (RepeatedOption at) _ none))
+shows_more before d (ValuedPart at Output None) h none = never at (value_fault_none before at Output None none)
 shows_more before d (ValuedPart at Output (Some value)) h none =
     let part = ValuedPart at Output (Some value) in
     record {
@@ -308,13 +324,13 @@ shows_more before d (ValuedPart at Output (Some value)) h none =
       keep_init = flag_kept KeepInit before part d.keep_init refl h.keep_init;
       reactor = flag_kept Reactor before part d.reactor refl h.reactor;
       report = flag_kept Report before part d.report refl h.report;
-      output = text_added Output before part value.1 refl refl (test_false (is_repeated before Output) _ _ none);
+      output = text_added Output before part value.1 refl refl (not_repeated before at Output (Some value) none);
       function = text_kept Function before part d.function refl refl h.function;
       fuel = number_kept Fuel before part d.fuel refl refl h.fuel;
       sample = number_kept SampleNumber before part d.sample refl refl h.sample;
       renames = renames_kept before part d.renames d.bytes refl h.renames;
     }
-shows_more before d (ValuedPart at Function None) h none = never at (test_later (is_sample_beside before Function) (ExtraWord at) (Some (MissingValue at)) (test_later (is_repeated before Function) (RepeatedOption at) _ none))
+shows_more before d (ValuedPart at Function None) h none = never at (value_fault_none before at Function None none)
 shows_more before d (ValuedPart at Function (Some value)) h none =
     let part = ValuedPart at Function (Some value) in
     record {
@@ -323,12 +339,12 @@ shows_more before d (ValuedPart at Function (Some value)) h none =
       reactor = flag_kept Reactor before part d.reactor refl h.reactor;
       report = flag_kept Report before part d.report refl h.report;
       output = text_kept Output before part d.output refl refl h.output;
-      function = text_added Function before part value.1 refl refl (test_false (is_repeated before Function) _ _ none);
+      function = text_added Function before part value.1 refl refl (not_repeated before at Function (Some value) none);
       fuel = number_kept Fuel before part d.fuel refl refl h.fuel;
       sample = number_kept SampleNumber before part d.sample refl refl h.sample;
       renames = renames_kept before part d.renames d.bytes refl h.renames;
     }
-shows_more before d (ValuedPart at RenameFunction None) h none = never at (test_later (is_sample_beside before RenameFunction) (ExtraWord at) (Some (MissingValue at)) (test_later (is_repeated before RenameFunction) (RepeatedOption at) _ none))
+shows_more before d (ValuedPart at RenameFunction None) h none = never at (value_fault_none before at RenameFunction None none)
 shows_more before d (ValuedPart at RenameFunction (Some value)) h none =
     let part = ValuedPart at RenameFunction (Some value) in
     record {
@@ -342,7 +358,7 @@ shows_more before d (ValuedPart at RenameFunction (Some value)) h none =
       sample = number_kept SampleNumber before part d.sample refl refl h.sample;
       renames = renames_added before part value.1 d.renames d.bytes refl h.renames;
     }
-shows_more before d (ValuedPart at Fuel None) h none = never at (test_later (is_sample_beside before Fuel) (ExtraWord at) (Some (MissingValue at)) (test_later (is_repeated before Fuel) (RepeatedOption at) _ none))
+shows_more before d (ValuedPart at Fuel None) h none = never at (value_fault_none before at Fuel None none)
 shows_more before d (ValuedPart at Fuel (Some value)) h none =
     let part = ValuedPart at Fuel (Some value) in
     record {
@@ -352,11 +368,11 @@ shows_more before d (ValuedPart at Fuel (Some value)) h none =
       report = flag_kept Report before part d.report refl h.report;
       output = text_kept Output before part d.output refl refl h.output;
       function = text_kept Function before part d.function refl refl h.function;
-      fuel = number_added Fuel before part value.1 refl refl (test_false (is_repeated before Fuel) _ _ none) (number_there value.0 fuel_limit (decimal value.1) (test_later (is_sample_beside before Fuel) (ExtraWord at) (value_part_fault before at Fuel (Some value)) (test_later (is_repeated before Fuel) (RepeatedOption at) _ none)));
+      fuel = number_added Fuel before part value.1 refl refl (not_repeated before at Fuel (Some value) none) (number_there value.0 fuel_limit (decimal value.1) (value_fault_none before at Fuel (Some value) none));
       sample = number_kept SampleNumber before part d.sample refl refl h.sample;
       renames = renames_kept before part d.renames d.bytes refl h.renames;
     }
-shows_more before d (ValuedPart at SampleNumber None) h none = never at (test_later (is_sample_beside before SampleNumber) (ExtraWord at) (Some (MissingValue at)) (test_later (is_repeated before SampleNumber) (RepeatedOption at) _ none))
+shows_more before d (ValuedPart at SampleNumber None) h none = never at (value_fault_none before at SampleNumber None none)
 shows_more before d (ValuedPart at SampleNumber (Some value)) h none =
     let part = ValuedPart at SampleNumber (Some value) in
     record {
@@ -367,7 +383,7 @@ shows_more before d (ValuedPart at SampleNumber (Some value)) h none =
       output = text_kept Output before part d.output refl refl h.output;
       function = text_kept Function before part d.function refl refl h.function;
       fuel = number_kept Fuel before part d.fuel refl refl h.fuel;
-      sample = number_added SampleNumber before part value.1 refl refl (test_false (is_repeated before SampleNumber) _ _ none) (number_there value.0 sample_limit (decimal value.1) (test_later (is_sample_beside before SampleNumber) (ExtraWord at) (value_part_fault before at SampleNumber (Some value)) (test_later (is_repeated before SampleNumber) (RepeatedOption at) _ none)));
+      sample = number_added SampleNumber before part value.1 refl refl (not_repeated before at SampleNumber (Some value) none) (number_there value.0 sample_limit (decimal value.1) (value_fault_none before at SampleNumber (Some value) none));
       renames = renames_kept before part d.renames d.bytes refl h.renames;
     }
 shows_more before d (UnknownPart at) h none = absurd cc

@@ -1,16 +1,13 @@
 -- The sets of names that were renamed to and from.
 use Rattle.std.proofs.Common.{◌≡◌, ℕ, List, [], ◌∷◌, ◌++◌, Bor, Bool, true, false, cond, Result, Ok, Err, refl, sym, ap, ◌∙◌}
-use Rattle.std.specs.Ordering.{nat_cmp}
-use Rattle.std.specs.declared.cmp.Ordering.{Ordering}
 use Rattle.std.specs.Prelude.{nat_eq, ◌==◌, ◌&&◌, ◌||◌, OnOk}
 use Rattle.std.specs.List.{list_any}
-use Rattle.std.specs.Cmp.Lexicographic.{slice_cmp, pointwise, texts_ties}
+use Rattle.std.specs.Cmp.Lexicographic.{pointwise, texts_ties}
 use Rattle.std.specs.BTreeMap.{is_at}
 use Rattle.std.specs.BTreeSet.{BTreeSet, contains}
 use Rattle.std.proofs.lemmas.List.Folds.{list_any-append}
 use Rattle.wz_words.specs.declared.settings.Rename.{Rename}
 use Rattle.wz_words.specs.Options.{same_text}
-use Rattle.wz_words.specs.Faults.{renames_to, renames_from}
 use Rattle.wz_words.specs.Views.{HasNames, text_cmp}
 
 pub same_is_pointwise : (a b : List ℕ) → same_text a b ≡ pointwise nat_eq a b
@@ -37,7 +34,8 @@ names_more name_of seen now renames key rename has e updates q =
     ∙ ap (λ (name : List ℕ). list_any (λ r. same_text (name_of r) q.now) renames || (same_text name q.now || false)) (sym e)
     ∙ sym (list_any-append (λ r. same_text (name_of r) q.now) renames (rename ∷ []))
 
-pub names_at : (names now : BTreeSet (Bor (List ℕ))) (name_of : Rename → List ℕ) (renames more : List Rename) → now ≡ names → more ≡ renames → HasNames names name_of renames → HasNames now name_of more
+pub names_at : (names now : BTreeSet (Bor (List ℕ))) (name_of : Rename → List ℕ) (renames more : List Rename) → now ≡ names → more ≡ renames
+    → HasNames names name_of renames → HasNames now name_of more
 names_at names now name_of renames more e f h q =
     ap (λ (s : BTreeSet (Bor (List ℕ))). contains text_cmp s q) e ∙ h q ∙ sym (ap (λ (rs : List Rename). list_any (λ r. same_text (name_of r) q.now) rs) f)
 

@@ -11,6 +11,8 @@ mod options;
 mod read;
 mod renames;
 mod settings;
+#[cfg(test)]
+mod tests;
 
 pub use read::read_words;
 pub use settings::{InputFrom, OutputTo, Rename, Settings, Usage};
