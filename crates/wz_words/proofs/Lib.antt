@@ -1,0 +1,5 @@
+pub mod DraftLaws
+pub mod HalvesLaws
+pub mod NumberLaws
+pub mod RenamesLaws
+pub mod PartsLaws

@@ -1,0 +1,9 @@
+pub mod Options
+pub mod Parts
+pub mod Settings
+pub mod Faults
+pub mod Draft
+pub mod Views
+pub mod Left
+pub mod DraftViews
+pub mod Reader
