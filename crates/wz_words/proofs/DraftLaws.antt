@@ -6,7 +6,7 @@ use Rattle.wz_words.specs.declared.settings.Rename.{Rename}
 use Rattle.wz_words.specs.declared.settings.Usage.{Usage}
 use Rattle.wz_words.specs.declared.settings.Usage.TheVariants.{MissingValue, RepeatedOption, ExtraWord}
 use Rattle.wz_words.specs.Options.{Flag, KeepInit, Reactor, Report, Valued, Output, Function, RenameFunction, Fuel, SampleNumber, same_flag, same_valued, decimal}
-use Rattle.wz_words.specs.Parts.{Part, Operand, FlagPart, ValuedPart, UnknownPart, Halves, halves_of, parts_of}
+use Rattle.wz_words.specs.Parts.{Part, Operand, FlagPart, ValuedPart, UnknownPart, Halves, halves_of, command_parts}
 use Rattle.wz_words.specs.Settings.{Settings, operand_in, has_flag, has_option, values_of, renames_of, with_halves, first_value, number_of_value, asked}
 use Rattle.wz_words.specs.Faults.{number_fault, fuel_limit, sample_limit, rename_fault, value_part_fault, bytes_in, is_extra, is_repeated, is_sample_beside, fault_of, first_fault, or_later, unless_fault, settings}
 use Rattle.wz_words.specs.Draft.{Draft, empty_draft, fault_in, with_part, rename_fault_in, fault_or, outcome_from, draft_asks}
@@ -407,6 +407,6 @@ outcome_same before d (part ∷ parts) h =
     ∙ ap (λ (fault : Option Usage). fault_or fault (outcome_from (with_part d part) parts)) same
 
 -- the draft's outcome is what the words ask for
-pub settings_by_draft : (words : List (List ℕ)) → settings words ≡ outcome_from empty_draft (parts_of words)
+pub settings_by_draft : (words : List (List ℕ)) → settings words ≡ outcome_from empty_draft (command_parts words)
 unfolding settings
-settings_by_draft words = outcome_same [] empty_draft (parts_of words) shows_none
+settings_by_draft words = outcome_same [] empty_draft (command_parts words) shows_none

@@ -6,7 +6,7 @@ use Rattle.wz_words.specs.declared.settings.Rename.{Rename}
 use Rattle.wz_words.specs.declared.settings.Usage.{Usage}
 use Rattle.wz_words.specs.declared.settings.Usage.TheVariants.{UnknownOption, MissingValue, RepeatedOption, ExtraWord, BadNumber, BadRename, RenamesTooLong, RenameTwiceTo, RenameTwiceFrom}
 use Rattle.wz_words.specs.Options.{Valued, Output, Function, RenameFunction, Fuel, SampleNumber, same_valued, same_text, decimal}
-use Rattle.wz_words.specs.Parts.{Part, Operand, FlagPart, ValuedPart, UnknownPart, Halves, halves_of, parts_of}
+use Rattle.wz_words.specs.Parts.{Part, Operand, FlagPart, ValuedPart, UnknownPart, Halves, halves_of, command_parts}
 use Rattle.wz_words.specs.Settings.{Settings, operand_in, has_flag, has_option, values_of, renames_of, asked}
 
 -- ---- values
@@ -96,4 +96,4 @@ unless_fault (Some fault) asked = Err fault
 
 -- what the words ask for, or the first that is at fault
 unfoldable pub settings : List (List ℕ) → Result Settings Usage
-settings words = unless_fault (first_fault [] (parts_of words)) (asked (parts_of words))
+settings words = unless_fault (first_fault [] (command_parts words)) (asked (command_parts words))

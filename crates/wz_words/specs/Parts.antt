@@ -101,5 +101,5 @@ parts_from ended at (word ∷ next ∷ words) =
     (λ now. parts_from now (at + 1) (next ∷ words)) (λ now. parts_from now (at + 2) words)
 
 -- the parts of the whole command line
-abbrev pub parts_of : List (List ℕ) → List Part
-parts_of words = parts_from false 0 words
+abbrev pub command_parts : List (List ℕ) → List Part
+command_parts words = parts_from false 0 words

@@ -80,187 +80,189 @@ const NONE: Row<'static> = Row {
     fuel: 10_000_000_000,
 };
 
+const ROWS: [Row<'static>; 21] = [
+    NONE,
+    Row {
+        words: &["-"],
+        ..NONE
+    },
+    Row {
+        words: &["a"],
+        input: "a",
+        ..NONE
+    },
+    Row {
+        words: &["--", "-a"],
+        input: "-a",
+        ..NONE
+    },
+    Row {
+        words: &["a", "--"],
+        input: "a",
+        ..NONE
+    },
+    Row {
+        words: &["--", "--"],
+        input: "--",
+        ..NONE
+    },
+    Row {
+        words: &["-o", "-"],
+        ..NONE
+    },
+    Row {
+        words: &["-o", "--"],
+        output: "--",
+        ..NONE
+    },
+    Row {
+        words: &["-o", "b", "a"],
+        input: "a",
+        output: "b",
+        ..NONE
+    },
+    Row {
+        words: &["a", "--output", "b"],
+        input: "a",
+        output: "b",
+        ..NONE
+    },
+    Row {
+        words: &["--output=b"],
+        output: "b",
+        ..NONE
+    },
+    Row {
+        words: &["--output="],
+        output: "",
+        ..NONE
+    },
+    Row {
+        words: &["--output==b"],
+        output: "=b",
+        ..NONE
+    },
+    Row {
+        words: &["-f", "-x"],
+        function: "-x",
+        ..NONE
+    },
+    Row {
+        words: &["--init-func", "x"],
+        function: "x",
+        ..NONE
+    },
+    Row {
+        words: &["--init-func=x=y"],
+        function: "x=y",
+        ..NONE
+    },
+    Row {
+        words: &["--fuel=007", "a"],
+        input: "a",
+        fuel: 7,
+        ..NONE
+    },
+    Row {
+        words: &["--fuel", "0"],
+        fuel: 0,
+        ..NONE
+    },
+    Row {
+        words: &["--fuel", "18446744073709551615"],
+        fuel: 18_446_744_073_709_551_615,
+        ..NONE
+    },
+    Row {
+        words: &["--sample", "1000000"],
+        input: "(sample)",
+        ..NONE
+    },
+    Row {
+        words: &["--sample=0"],
+        input: "(sample)",
+        ..NONE
+    },
+];
+
 #[test]
 fn values(rt: HostRuntime) -> Result<(), Fail> {
-    let rows = [
-        NONE,
-        Row {
-            words: &["-"],
-            ..NONE
-        },
-        Row {
-            words: &["a"],
-            input: "a",
-            ..NONE
-        },
-        Row {
-            words: &["--", "-a"],
-            input: "-a",
-            ..NONE
-        },
-        Row {
-            words: &["a", "--"],
-            input: "a",
-            ..NONE
-        },
-        Row {
-            words: &["--", "--"],
-            input: "--",
-            ..NONE
-        },
-        Row {
-            words: &["-o", "-"],
-            ..NONE
-        },
-        Row {
-            words: &["-o", "--"],
-            output: "--",
-            ..NONE
-        },
-        Row {
-            words: &["-o", "b", "a"],
-            input: "a",
-            output: "b",
-            ..NONE
-        },
-        Row {
-            words: &["a", "--output", "b"],
-            input: "a",
-            output: "b",
-            ..NONE
-        },
-        Row {
-            words: &["--output=b"],
-            output: "b",
-            ..NONE
-        },
-        Row {
-            words: &["--output="],
-            output: "",
-            ..NONE
-        },
-        Row {
-            words: &["--output==b"],
-            output: "=b",
-            ..NONE
-        },
-        Row {
-            words: &["-f", "-x"],
-            function: "-x",
-            ..NONE
-        },
-        Row {
-            words: &["--init-func", "x"],
-            function: "x",
-            ..NONE
-        },
-        Row {
-            words: &["--init-func=x=y"],
-            function: "x=y",
-            ..NONE
-        },
-        Row {
-            words: &["--fuel=007", "a"],
-            input: "a",
-            fuel: 7,
-            ..NONE
-        },
-        Row {
-            words: &["--fuel", "0"],
-            fuel: 0,
-            ..NONE
-        },
-        Row {
-            words: &["--fuel", "18446744073709551615"],
-            fuel: 18_446_744_073_709_551_615,
-            ..NONE
-        },
-        Row {
-            words: &["--sample", "1000000"],
-            input: "(sample)",
-            ..NONE
-        },
-        Row {
-            words: &["--sample=0"],
-            input: "(sample)",
-            ..NONE
-        },
-    ];
-    for row in rows {
+    for row in ROWS {
         asks(&rt, rt.alloc(), row)?;
     }
     Ok(())
 }
 
+const FAULTS: [(&'static [&'static str], Usage); 40] = [
+    (&["--sampel", "3"], Usage::UnknownOption { at: 0 }),
+    (&["-x"], Usage::UnknownOption { at: 0 }),
+    (&["-ob"], Usage::UnknownOption { at: 0 }),
+    (&["-o=b"], Usage::UnknownOption { at: 0 }),
+    (&["--report="], Usage::UnknownOption { at: 0 }),
+    (&["--report", "--report=1"], Usage::UnknownOption { at: 1 }),
+    (&["--prune"], Usage::UnknownOption { at: 0 }),
+    (&["---"], Usage::UnknownOption { at: 0 }),
+    (&["--reactor", "--reactor"], Usage::RepeatedOption { at: 1 }),
+    (&["--report", "--report"], Usage::RepeatedOption { at: 1 }),
+    (
+        &["--keep-init-func", "--keep-init-func"],
+        Usage::RepeatedOption { at: 1 },
+    ),
+    (
+        &["-f", "x", "--init-func", "y"],
+        Usage::RepeatedOption { at: 2 },
+    ),
+    (&["--init-func=x", "-f"], Usage::RepeatedOption { at: 1 }),
+    (
+        &["--output", "b", "-o", "c"],
+        Usage::RepeatedOption { at: 2 },
+    ),
+    (&["--fuel=1", "--fuel=x"], Usage::RepeatedOption { at: 1 }),
+    (
+        &["--sample=1", "--sample", "x"],
+        Usage::RepeatedOption { at: 1 },
+    ),
+    (&["-o"], Usage::MissingValue { at: 0 }),
+    (&["a", "--fuel"], Usage::MissingValue { at: 1 }),
+    (&["-r"], Usage::MissingValue { at: 0 }),
+    (&["-f"], Usage::MissingValue { at: 0 }),
+    (&["--sample"], Usage::MissingValue { at: 0 }),
+    (&["--fuel", "x"], Usage::BadNumber { at: 1 }),
+    (&["--fuel", ""], Usage::BadNumber { at: 1 }),
+    (&["--fuel="], Usage::BadNumber { at: 0 }),
+    (&["--fuel", "+5"], Usage::BadNumber { at: 1 }),
+    (&["--fuel", "1_0"], Usage::BadNumber { at: 1 }),
+    (
+        &["--fuel", "18446744073709551616"],
+        Usage::BadNumber { at: 1 },
+    ),
+    (
+        &["--fuel", "99999999999999999999999"],
+        Usage::BadNumber { at: 1 },
+    ),
+    (&["--sample", "1000001"], Usage::BadNumber { at: 1 }),
+    (
+        &["--sample=18446744073709551617"],
+        Usage::BadNumber { at: 0 },
+    ),
+    (&["-r", "a"], Usage::BadRename { at: 1 }),
+    (&["--rename-func=a"], Usage::BadRename { at: 0 }),
+    (&["-r", "a=b", "-r", "a=b"], Usage::RenameTwiceTo { at: 3 }),
+    (
+        &["-r", "a=b", "--rename-func=c=b"],
+        Usage::RenameTwiceFrom { at: 2 },
+    ),
+    (&["a", "b"], Usage::ExtraWord { at: 1 }),
+    (&["a", "--", "-o"], Usage::ExtraWord { at: 2 }),
+    (&["--sample", "3", "a"], Usage::ExtraWord { at: 2 }),
+    (&["a", "--sample", "x"], Usage::ExtraWord { at: 1 }),
+    (&["a", "--sample"], Usage::ExtraWord { at: 1 }),
+    (&["-", "-"], Usage::ExtraWord { at: 1 }),
+];
+
 #[test]
 fn faults(rt: HostRuntime) -> Result<(), Fail> {
-    let rows: [(&[&str], Usage); 40] = [
-        (&["--sampel", "3"], Usage::UnknownOption { at: 0 }),
-        (&["-x"], Usage::UnknownOption { at: 0 }),
-        (&["-ob"], Usage::UnknownOption { at: 0 }),
-        (&["-o=b"], Usage::UnknownOption { at: 0 }),
-        (&["--report="], Usage::UnknownOption { at: 0 }),
-        (&["--report", "--report=1"], Usage::UnknownOption { at: 1 }),
-        (&["--prune"], Usage::UnknownOption { at: 0 }),
-        (&["---"], Usage::UnknownOption { at: 0 }),
-        (&["--reactor", "--reactor"], Usage::RepeatedOption { at: 1 }),
-        (&["--report", "--report"], Usage::RepeatedOption { at: 1 }),
-        (
-            &["--keep-init-func", "--keep-init-func"],
-            Usage::RepeatedOption { at: 1 },
-        ),
-        (
-            &["-f", "x", "--init-func", "y"],
-            Usage::RepeatedOption { at: 2 },
-        ),
-        (&["--init-func=x", "-f"], Usage::RepeatedOption { at: 1 }),
-        (
-            &["--output", "b", "-o", "c"],
-            Usage::RepeatedOption { at: 2 },
-        ),
-        (&["--fuel=1", "--fuel=x"], Usage::RepeatedOption { at: 1 }),
-        (
-            &["--sample=1", "--sample", "x"],
-            Usage::RepeatedOption { at: 1 },
-        ),
-        (&["-o"], Usage::MissingValue { at: 0 }),
-        (&["a", "--fuel"], Usage::MissingValue { at: 1 }),
-        (&["-r"], Usage::MissingValue { at: 0 }),
-        (&["-f"], Usage::MissingValue { at: 0 }),
-        (&["--sample"], Usage::MissingValue { at: 0 }),
-        (&["--fuel", "x"], Usage::BadNumber { at: 1 }),
-        (&["--fuel", ""], Usage::BadNumber { at: 1 }),
-        (&["--fuel="], Usage::BadNumber { at: 0 }),
-        (&["--fuel", "+5"], Usage::BadNumber { at: 1 }),
-        (&["--fuel", "1_0"], Usage::BadNumber { at: 1 }),
-        (
-            &["--fuel", "18446744073709551616"],
-            Usage::BadNumber { at: 1 },
-        ),
-        (
-            &["--fuel", "99999999999999999999999"],
-            Usage::BadNumber { at: 1 },
-        ),
-        (&["--sample", "1000001"], Usage::BadNumber { at: 1 }),
-        (
-            &["--sample=18446744073709551617"],
-            Usage::BadNumber { at: 0 },
-        ),
-        (&["-r", "a"], Usage::BadRename { at: 1 }),
-        (&["--rename-func=a"], Usage::BadRename { at: 0 }),
-        (&["-r", "a=b", "-r", "a=b"], Usage::RenameTwiceTo { at: 3 }),
-        (
-            &["-r", "a=b", "--rename-func=c=b"],
-            Usage::RenameTwiceFrom { at: 2 },
-        ),
-        (&["a", "b"], Usage::ExtraWord { at: 1 }),
-        (&["a", "--", "-o"], Usage::ExtraWord { at: 2 }),
-        (&["--sample", "3", "a"], Usage::ExtraWord { at: 2 }),
-        (&["a", "--sample", "x"], Usage::ExtraWord { at: 1 }),
-        (&["a", "--sample"], Usage::ExtraWord { at: 1 }),
-        (&["-", "-"], Usage::ExtraWord { at: 1 }),
-    ];
-    for (row, usage) in rows {
+    for (row, usage) in FAULTS {
         refuses(&rt, rt.alloc(), row, usage)?;
     }
     Ok(())
