@@ -1,5 +1,5 @@
--- Section 4.2.1 of the Core Specification (values), and section 4.5.2 (when a value has a type).
-use Rattle.std.specs.Prelude.{◌≡◌, ℕ, ◌<◌}
+-- Sections 4.2.1 (values) and 4.5.2 (value typing) of the Core Specification: the type of a value, and when a value fits a type.
+use Rattle.std.specs.Prelude.{ℕ, ◌^◌, nat_lt, List, [], ◌∷◌, Bool, true, false, IsTrue, ◌&&◌}
 use Rattle.wz_types.specs.declared.types.ValType.{ValType}
 use Rattle.wz_types.specs.declared.types.ValType.TheVariants as valtype
 use Rattle.wz_types.specs.declared.types.RefKind.{RefKind}
@@ -9,7 +9,8 @@ use Rattle.wz_types.specs.declared.value.Sort.TheVariants as sort
 use Rattle.wz_types.specs.declared.value.Reference.{Reference}
 use Rattle.wz_types.specs.declared.value.Reference.TheVariants.{Null, Fn, Foreign}
 use Rattle.wz_types.specs.declared.value.Value.{Value}
-use Rattle.wz_types.specs.declared.value.Value.TheVariants.{I32, I64, F32, F64, Ref}
+use Rattle.wz_types.specs.declared.value.Value.TheVariants as value
+use Rattle.wz_types.specs.SameType.{same_type}
 
 -- ---- the type that a value has, if it is one at all
 
@@ -28,30 +29,39 @@ kind_of (Fn index) = kind.Func
 kind_of (Foreign id sort) = kind_of_sort sort
 
 abbrev pub type_of : Value → ValType
-type_of (I32 bits) = valtype.I32
-type_of (I64 bits) = valtype.I64
-type_of (F32 bits) = valtype.F32
-type_of (F64 bits) = valtype.F64
-type_of (Ref reference) = type_of_kind (kind_of reference)
+type_of (value.I32 bits) = valtype.I32
+type_of (value.I64 bits) = valtype.I64
+type_of (value.F32 bits) = valtype.F32
+type_of (value.F64 bits) = valtype.F64
+type_of (value.Ref reference) = type_of_kind (kind_of reference)
 
 -- ---- when a value fits a type, where there are so many functions and so many types
 
 -- something of the host: an object for externref, a function for funcref, whose type may be one of those that are there
-abbrev pub ForeignFits : Sort → ValType → ℕ → Type 0
-ForeignFits sort.Extern type types = type ≡ valtype.ExternRef
-ForeignFits (sort.Func number) type types = (type ≡ valtype.FuncRef) × (number < types)
-ForeignFits sort.OtherFunc type types = type ≡ valtype.FuncRef
+abbrev pub sort_fits : Sort → ValType → ℕ → Bool
+sort_fits sort.Extern type types = same_type type valtype.ExternRef
+sort_fits (sort.Func number) type types = same_type type valtype.FuncRef && nat_lt number types
+sort_fits sort.OtherFunc type types = same_type type valtype.FuncRef
 
 -- null of the type's kind, a function that is there, or something of the host
-abbrev pub ReferenceFits : Reference → ValType → ℕ → ℕ → Type 0
-ReferenceFits (Null kind) type functions types = type ≡ type_of_kind kind
-ReferenceFits (Fn index) type functions types = (type ≡ valtype.FuncRef) × (index < functions)
-ReferenceFits (Foreign id sort) type functions types = ForeignFits sort type types
+abbrev pub reference_fits : Reference → ValType → ℕ → ℕ → Bool
+reference_fits (Null kind) type functions types = same_type type (type_of_kind kind)
+reference_fits (Fn index) type functions types = same_type type valtype.FuncRef && nat_lt index functions
+reference_fits (Foreign id sort) type functions types = sort_fits sort type types
 
--- a number of the type, or such a reference
+-- a number of the type, of its width, or such a reference
+abbrev pub value_fits : Value → ValType → ℕ → ℕ → Bool
+value_fits (value.I32 bits) type functions types = same_type type valtype.I32 && nat_lt bits (2 ^ 32)
+value_fits (value.I64 bits) type functions types = same_type type valtype.I64 && nat_lt bits (2 ^ 64)
+value_fits (value.F32 bits) type functions types = same_type type valtype.F32 && nat_lt bits (2 ^ 32)
+value_fits (value.F64 bits) type functions types = same_type type valtype.F64 && nat_lt bits (2 ^ 64)
+value_fits (value.Ref reference) type functions types = reference_fits reference type functions types
+
 abbrev pub Fits : Value → ValType → ℕ → ℕ → Type 0
-Fits (I32 bits) type functions types = type ≡ valtype.I32
-Fits (I64 bits) type functions types = type ≡ valtype.I64
-Fits (F32 bits) type functions types = type ≡ valtype.F32
-Fits (F64 bits) type functions types = type ≡ valtype.F64
-Fits (Ref reference) type functions types = ReferenceFits reference type functions types
+Fits value type functions types = IsTrue (value_fits value type functions types)
+
+-- as many values as types, each of which fits its type
+abbrev pub all_fit : List Value → List ValType → ℕ → ℕ → Bool
+all_fit [] [] functions types = true
+all_fit (value ∷ values) (type ∷ expected) functions types = value_fits value type functions types && all_fit values expected functions types
+all_fit values expected functions types = false

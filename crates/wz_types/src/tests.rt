@@ -1,3 +1,5 @@
+//! Lists that are copied, and values beside their types.
+
 use crate::function_type::FuncType;
 use crate::text::Text;
 use crate::types::{RefKind, ValType};
@@ -54,7 +56,7 @@ fn values_fit_their_types(rt: HostRuntime) {
         (foreign(Sort::OtherFunc), ValType::ExternRef, false),
     ];
     for (value, kind, fits) in rows {
-        assert_eq!(rt; value.fits(kind, 3, 2), fits);
+        assert_eq!(rt; value.fits(kind, 3, 2), fits, "{value:?} beside {kind:?}");
     }
     assert!(rt; Value::default() == Value::I32(0));
     assert!(rt; ValType::from(RefKind::Extern) == ValType::ExternRef);

@@ -1,4 +1,6 @@
-/// Why a computation was aborted (Core Specification 2.0, section 4.2.2, with the causes of chapter 4).
+//! Traps (Core Specification 2.0, section 4.2.2).
+
+/// Why a computation was aborted: the causes that chapter 4 of the Core Specification names.
 #[derive(Clone, Copy, Debug, PartialEq, Eq)]
 pub enum TrapKind {
     Unreachable,
