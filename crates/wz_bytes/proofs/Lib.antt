@@ -1,4 +1,5 @@
 pub mod ReadingLemmas
+pub mod ByteLemmas
 pub mod UnsignedLemmas
 pub mod UnsignedLaws
 pub mod SignedLemmas
@@ -7,3 +8,5 @@ pub mod ShortestLemmas
 pub mod ShortestLaws
 pub mod FormLaws
 pub mod NameLaws
+pub mod SwitchLaws
+pub mod VectorLaws

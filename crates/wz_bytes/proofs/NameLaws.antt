@@ -10,6 +10,7 @@ use Rattle.wz_bytes.specs.Name.{IsName, name_at}
 use Rattle.wz_bytes.proofs.ReadingLemmas.{bind_some, some_is, guarded}
 use Rattle.wz_bytes.specs.Shortest.{shortest_unsigned}
 use Rattle.wz_bytes.proofs.ShortestLaws.{unsigned_shortest}
+use Rattle.wz_bytes.proofs.ByteLemmas.{utf8_bytes}
 use Rattle.wz_bytes.proofs.FormLaws.{bytes_exact}
 
 pub name_exact : IsExact IsName name_at
@@ -35,4 +36,4 @@ unfolding name_at
 name_none bytes name rest e h = elim (cases_Bool (is_utf8 name)) [ inl good ↦ absurd (h (IsUtf8-from_is_utf8 name good)) | inr bad ↦ rw (sym e, bad) refl ]
 
 pub name_spelled : (name : List ℕ) → IsUtf8 name → length name < 2 ^ 32 → IsName (shortest_unsigned (length name) ++ name) name
-name_spelled name utf8 few = ((shortest_unsigned (length name), refl, (unsigned_shortest 32 (length name) few (omega arith)).spelled), utf8)
+name_spelled name utf8 few = ((shortest_unsigned (length name), refl, (unsigned_shortest 32 (length name) few (omega arith)).spelled, utf8_bytes name utf8), utf8)

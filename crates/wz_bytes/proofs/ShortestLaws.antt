@@ -7,9 +7,9 @@ use Rattle.std.proofs.lemmas.Nat.{pow-add, div_below, div-mul-add, div-add-mod',
 use Rattle.std.proofs.lemmas.Int.{ints}
 use Rattle.wz_bytes.specs.Reading.{IsShortest}
 use Rattle.wz_bytes.specs.Unsigned.{IsUnsigned}
-use Rattle.wz_bytes.specs.Signed.{IsSigned, IsWithin}
+use Rattle.wz_bytes.specs.Signed.{IsSigned, IsSignedNumber}
 use Rattle.wz_bytes.specs.Shortest.{unsigned_groups, shortest_unsigned, low_group, high_groups, is_one_group, signed_groups, shortest_signed}
-use Rattle.wz_bytes.proofs.ShortestLemmas.{size_of, size_of-high_groups, large, unsigned_groups-more, unsigned_groups-last, unsigned_groups-zero, unsigned_begin, signed_groups-zero, signed_groups-more, signed_groups-last, signed_begin}
+use Rattle.wz_bytes.proofs.ShortestLemmas.{size_of, size_of_high_groups, large, unsigned_groups-more, unsigned_groups-last, unsigned_groups-zero, unsigned_begin, signed_groups-zero, signed_groups-more, signed_groups-last, signed_begin}
 
 -- ---- unsigned
 
@@ -58,7 +58,7 @@ unsigned_shortest bits n fits small = rw (sym (unsigned_begin n)) (record {
 
 -- ---- signed
 
-pub size_within : (bits : ℕ) (z : ℤ) → IsWithin bits z → size_of z < 2 ^ (bits - 1)
+pub size_within : (bits : ℕ) (z : ℤ) → IsSignedNumber bits z → size_of z < 2 ^ (bits - 1)
 size_within bits (pos n) h = omega (arith, ints, h.0, h.1)
 size_within bits (negsuc n) h = omega (arith, ints, h.0, h.1)
 
@@ -98,10 +98,10 @@ signed_spelled (suc more) bits z fits enough = elim (cases_Bool (is_one_group z)
       let many : 7 < bits = elim (cases_lt 7 bits) [ inl above ↦ above | inr few ↦ absurd (let p : 2 ^ (bits - 1) ≤ 2 ^ 6 = pow_mono (let k : bits - 1 ≤ 6 = omega arith in k) in omega (arith, p)) ] in
       let high : size_of (high_groups z) < 2 ^ (bits - 7 - 1) =
       subst (λ (k : ℕ). size_of (high_groups z) < 2 ^ k) (let s : bits - 1 - 7 ≡ bits - 7 - 1 = omega arith in s)
-      (rw (size_of-high_groups z) (divided (bits - 1) (size_of z) (omega arith) fits)) in
+      (rw (size_of_high_groups z) (divided (bits - 1) (size_of z) (omega arith) fits)) in
       let left : size_of (high_groups z) < 2 ^ (7 * (more + 1) - 1) =
       subst (λ (k : ℕ). size_of (high_groups z) < 2 ^ k) (let s : 7 * (suc more + 1) - 1 - 7 ≡ 7 * (more + 1) - 1 = omega arith in s)
-      (rw (size_of-high_groups z) (divided (7 * (suc more + 1) - 1) (size_of z) (omega arith) enough)) in
+      (rw (size_of_high_groups z) (divided (7 * (suc more + 1) - 1) (size_of z) (omega arith) enough)) in
       let low = low_below z in
       let low-is : low_group z + 128 - 128 ≡ low_group z = omega arith in
       rw (signed_groups-more more z several)
@@ -132,7 +132,7 @@ signed_least (suc more) bits z (b ∷ other) (inr (inr h)) = elim (cases_Bool (i
       rw (signed_groups-more more z several) (omega (arith, rest))
 ]
 
-pub signed_shortest : (bits : ℕ) (z : ℤ) → IsWithin bits z → IsWithin 64 z → IsShortest (λ t y. IsSigned bits t y) (shortest_signed z) z
+pub signed_shortest : (bits : ℕ) (z : ℤ) → IsSignedNumber bits z → IsSignedNumber 64 z → IsShortest (λ t y. IsSigned bits t y) (shortest_signed z) z
 signed_shortest bits z fits small = rw (sym (signed_begin z)) (record {
   spelled = signed_spelled 9 bits z (size_within bits z fits) (omega (arith, size_within 64 z small));
   least = λ other h. signed_least 9 bits z other h;

@@ -66,17 +66,17 @@ abbrev pub size_of : ℤ → ℕ
 size_of (pos n) = n
 size_of (negsuc n) = n
 
-pub high_groups-is : (z : ℤ) → int_div_euclid z (pos 128) ≡ high_groups z
-high_groups-is (pos n) = refl
-high_groups-is (negsuc n) = refl
+pub high_groups_is : (z : ℤ) → int_div_euclid z (pos 128) ≡ high_groups z
+high_groups_is (pos n) = refl
+high_groups_is (negsuc n) = refl
 
 pub low_group-is : (z : ℤ) → int_rem_euclid z (pos 128) ≡ pos (low_group z)
 low_group-is (pos n) = refl
 low_group-is (negsuc n) = refl
 
-pub size_of-high_groups : (z : ℤ) → size_of (high_groups z) ≡ size_of z / 128
-size_of-high_groups (pos n) = refl
-size_of-high_groups (negsuc n) = refl
+pub size_of_high_groups : (z : ℤ) → size_of (high_groups z) ≡ size_of z / 128
+size_of_high_groups (pos n) = refl
+size_of_high_groups (negsuc n) = refl
 
 pub large : (z : ℤ) → is_one_group z ≡ false → 64 ≤ size_of z
 large (pos n) e = ltb-false _ _ e

@@ -5,7 +5,7 @@ use Rattle.std.proofs.lemmas.Bool.{lt-ltb, le-leb, leb-true, ltb-true, ltb-false
 use Rattle.wz_bytes.specs.Reading.{◌>>=◌, Front, IsExact}
 use Rattle.wz_bytes.specs.Signed.{IsSigned, last_group, signed_at}
 use Rattle.std.proofs.lemmas.Int.{ints}
-use Rattle.wz_bytes.specs.Signed.{IsWithin}
+use Rattle.wz_bytes.specs.Signed.{IsSignedNumber}
 use Rattle.wz_bytes.proofs.SignedLemmas.{within_more}
 use Rattle.wz_bytes.proofs.ReadingLemmas.{bind_some, some_is, chosen, guarded}
 
@@ -78,7 +78,7 @@ signed_again bits (b ∷ text) z rest (inr (inr h)) =
 pub signed_exact : (bits : ℕ) → IsExact (λ t z. IsSigned bits t z) (λ bytes. signed_at bits bytes)
 signed_exact bits = record { found = signed_found bits; again = signed_again bits }
 
-pub signed_within : (bits : ℕ) (text : List ℕ) (z : ℤ) → 1 ≤ bits → IsSigned bits text z → IsWithin bits z
+pub signed_within : (bits : ℕ) (text : List ℕ) (z : ℤ) → 1 ≤ bits → IsSigned bits text z → IsSignedNumber bits z
 signed_within bits [] z some h = absurd h
 signed_within bits (b ∷ text) z some (inl h) = rw h.3 (omega (arith, ints), omega (arith, ints, h.2))
 signed_within bits (b ∷ text) z some (inr (inl h)) = (omega (arith, ints, h.4, h.3, h.2), omega (arith, ints, h.4, h.3, h.2))

@@ -2,7 +2,7 @@
 use Rattle.std.specs.Prelude.{◌≡◌, ℕ, ℤ, ◌+◌, ◌*◌, ◌^◌, ◌<◌, ◌≤◌, List, ◌++◌, length, Some, IsUtf8}
 use Rattle.wz_bytes.specs.Reading.{IsExact, OneFront, OneOfEachLength, IsShortest}
 use Rattle.wz_bytes.specs.Unsigned.{IsUnsigned, unsigned_at}
-use Rattle.wz_bytes.specs.Signed.{IsSigned, IsWithin, signed_at}
+use Rattle.wz_bytes.specs.Signed.{IsSigned, IsSignedNumber, signed_at}
 use Rattle.wz_bytes.specs.Shortest.{shortest_unsigned, shortest_signed}
 use Rattle.wz_bytes.specs.Name.{IsName, name_at}
 
@@ -30,11 +30,11 @@ OneName = OneFront IsName
 
 -- ---- a spelling's value lies within the width, and its length within the width's groups of seven bits
 
-abbrev pub UnsignedIsWithin : Type 0
-UnsignedIsWithin = (bits : ℕ) (text : List ℕ) (n : ℕ) → IsUnsigned bits text n → n < 2 ^ bits
+abbrev pub UnsignedIsBounded : Type 0
+UnsignedIsBounded = (bits : ℕ) (text : List ℕ) (n : ℕ) → IsUnsigned bits text n → n < 2 ^ bits
 
-abbrev pub SignedIsWithin : Type 0
-SignedIsWithin = (bits : ℕ) (text : List ℕ) (z : ℤ) → 1 ≤ bits → IsSigned bits text z → IsWithin bits z
+abbrev pub SignedIsBounded : Type 0
+SignedIsBounded = (bits : ℕ) (text : List ℕ) (z : ℤ) → 1 ≤ bits → IsSigned bits text z → IsSignedNumber bits z
 
 abbrev pub UnsignedIsShort : Type 0
 UnsignedIsShort = (bits : ℕ) (text : List ℕ) (n : ℕ) → 1 ≤ bits → IsUnsigned bits text n → 7 * length text < bits + 7
@@ -48,7 +48,7 @@ abbrev pub UnsignedIsShortest : Type 0
 UnsignedIsShortest = (bits n : ℕ) → n < 2 ^ bits → n < 2 ^ 64 → IsShortest (λ t m. IsUnsigned bits t m) (shortest_unsigned n) n
 
 abbrev pub SignedIsShortest : Type 0
-SignedIsShortest = (bits : ℕ) (z : ℤ) → IsWithin bits z → IsWithin 64 z → IsShortest (λ t y. IsSigned bits t y) (shortest_signed z) z
+SignedIsShortest = (bits : ℕ) (z : ℤ) → IsSignedNumber bits z → IsSignedNumber 64 z → IsShortest (λ t y. IsSigned bits t y) (shortest_signed z) z
 
 abbrev pub NameIsSpelled : Type 0
 NameIsSpelled = (name : List ℕ) → IsUtf8 name → length name < 2 ^ 32 → IsName (shortest_unsigned (length name) ++ name) name
@@ -67,7 +67,7 @@ abbrev pub UnsignedIsReadAgain : Type 0
 UnsignedIsReadAgain = (bits n : ℕ) (rest : List ℕ) → n < 2 ^ bits → n < 2 ^ 64 → unsigned_at bits (shortest_unsigned n ++ rest) ≡ Some (n, rest)
 
 abbrev pub SignedIsReadAgain : Type 0
-SignedIsReadAgain = (bits : ℕ) (z : ℤ) (rest : List ℕ) → IsWithin bits z → IsWithin 64 z → signed_at bits (shortest_signed z ++ rest) ≡ Some (z, rest)
+SignedIsReadAgain = (bits : ℕ) (z : ℤ) (rest : List ℕ) → IsSignedNumber bits z → IsSignedNumber 64 z → signed_at bits (shortest_signed z ++ rest) ≡ Some (z, rest)
 
 abbrev pub NameIsReadAgain : Type 0
 NameIsReadAgain = (name rest : List ℕ) → IsUtf8 name → length name < 2 ^ 32 → name_at (shortest_unsigned (length name) ++ name ++ rest) ≡ Some (name, rest)

@@ -1,5 +1,6 @@
 pub mod Reading
 pub mod Forms
+pub mod Vectors
 pub mod Unsigned
 pub mod Signed
 pub mod Shortest

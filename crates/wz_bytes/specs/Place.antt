@@ -1,5 +1,6 @@
 -- Where a cursor is in its bytes, and what it takes off them.
 use Rattle.std.specs.Prelude.{◌≡◌, ℕ, List, Option, Some, None}
+use Rattle.std.specs.Option.{option_map}
 use Rattle.wz_bytes.specs.Reading.{Front}
 
 -- how many bytes there were, and those that are left
@@ -15,3 +16,7 @@ Passes Spells x old new = Front Spells old.left x new.left × (new.total ≡ old
 abbrev pub Moves : {X Y : Type 0} → (Y → X) → Option Y → Place → Place → Option (X × List ℕ) → Type 0
 Moves view None old new read = (read ≡ None) × (new ≡ old)
 Moves view (Some y) old new read = (read ≡ Some (view y, new.left)) × (new.total ≡ old.total)
+
+-- the same of a reader that may leave the cursor anywhere where it gives nothing, as one of several parts does
+abbrev pub Takes : {X Y : Type 0} → (Y → X) → Option Y → Place → Option (X × List ℕ) → Type 0
+Takes view result new read = option_map (λ y. (view y, new.left)) result ≡ read

@@ -1,33 +1,39 @@
 -- What a form of the binary format (section 5.1 of the Core Specification) and a reading of it have to do with each other.
--- A form is a relation between a text, the bytes that spell a value, and the value.
 use Rattle.std.specs.Prelude.{◌≡◌, ◌≢◌, ℕ, ◌≤◌, List, ◌++◌, length, Option, Some, None}
 
+-- A form is a relation between a text, the bytes that spell a value, and the value.
+abbrev pub Form : Type 0 → Type 1
+Form X = List ℕ → X → Type 0
+
+-- A reading gives the value in front of the bytes, and the bytes behind it.
+abbrev pub Reading : Type 0 → Type 0
+Reading X = List ℕ → Option (X × List ℕ)
+
 -- a spelling of x stands in front of the bytes, and the rest is behind it
-pub record Front {X : Type 0} (Spells : List ℕ → X → Type 0) (bytes : List ℕ) (x : X) (rest : List ℕ) : Type 0 where
+pub record Front {X : Type 0} (Spells : Form X) (bytes : List ℕ) (x : X) (rest : List ℕ) : Type 0 where
   pub text : List ℕ
   pub parts : bytes ≡ text ++ rest
   pub spelled : Spells text x
 
 -- no spelling stands in front of the bytes
-abbrev pub NoFront : {X : Type 0} → (List ℕ → X → Type 0) → List ℕ → Type 0
+abbrev pub NoFront : {X : Type 0} → Form X → List ℕ → Type 0
 NoFront {X = X} Spells bytes = (text rest : List ℕ) (x : X) → Spells text x → bytes ≢ text ++ rest
 
 -- at most one value stands in front of bytes, and at most one rest is behind it
-abbrev pub OneFront : {X : Type 0} → (List ℕ → X → Type 0) → Type 0
+abbrev pub OneFront : {X : Type 0} → Form X → Type 0
 OneFront {X = X} Spells = (a b r s : List ℕ) (x y : X) → Spells a x → Spells b y → a ++ r ≡ b ++ s → (x ≡ y) × (a ≡ b) × (r ≡ s)
 
--- A reading gives a value and the bytes behind it. It is exact for a form where it reads what the form spells, all of
--- it and nothing else.
-pub record IsExact {X : Type 0} (Spells : List ℕ → X → Type 0) (read : List ℕ → Option (X × List ℕ)) : Type 0 where
+-- A reading is exact for a form where it reads what the form spells, all of it and nothing else.
+pub record IsExact {X : Type 0} (Spells : Form X) (read : Reading X) : Type 0 where
   pub found : (bytes : List ℕ) (x : X) (rest : List ℕ) → read bytes ≡ Some (x, rest) → Front Spells bytes x rest
   pub again : (text : List ℕ) (x : X) (rest : List ℕ) → Spells text x → read (text ++ rest) ≡ Some (x, rest)
 
 -- texts of one length that spell one value are one text
-abbrev pub OneOfEachLength : {X : Type 0} → (List ℕ → X → Type 0) → Type 0
+abbrev pub OneOfEachLength : {X : Type 0} → Form X → Type 0
 OneOfEachLength {X = X} Spells = (a b : List ℕ) (x : X) → Spells a x → Spells b x → length a ≡ length b → a ≡ b
 
 -- the text spells the value, and no text that spells it is shorter
-pub record IsShortest {X : Type 0} (Spells : List ℕ → X → Type 0) (text : List ℕ) (x : X) : Type 0 where
+pub record IsShortest {X : Type 0} (Spells : Form X) (text : List ℕ) (x : X) : Type 0 where
   pub spelled : Spells text x
   pub least : (other : List ℕ) → Spells other x → length text ≤ length other
 

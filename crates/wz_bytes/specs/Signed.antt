@@ -14,8 +14,8 @@ IsSigned bits (b ∷ bytes) z =
     ⊎ ((128 ≤ b) × (b < 256) × (7 < bits) × (high : ℤ) × (z ≡ pos 128 *ℤ high +ℤ pos (b - 128)) × IsSigned (bits - 7) bytes high))
 
 -- two's complement of so many bits holds z
-abbrev pub IsWithin : ℕ → ℤ → Type 0
-IsWithin bits z = (neg_ℤ (pos (2 ^ (bits - 1))) ≤ℤ z) × (z <ℤ pos (2 ^ (bits - 1)))
+abbrev pub IsSignedNumber : ℕ → ℤ → Type 0
+IsSignedNumber bits z = (neg_ℤ (pos (2 ^ (bits - 1))) ≤ℤ z) × (z <ℤ pos (2 ^ (bits - 1)))
 
 -- what a last byte stands for, of which so many bits are used: the others are copies of the sign
 abbrev pub last_group : ℕ → ℕ → Option ℤ

@@ -1,13 +1,17 @@
+//! A place in bytes that are read from the front.
+
 ghost use Rattle.std.specs.Prelude.{◌≡◌, ◌<◌, ◌≤◌, ◌+◌, ℕ, List, [], length, take, drop, IfSome, IsNone, IfNone};
 ghost use Rattle.wz_bytes.specs.Reading.{NoFront};
 ghost use Rattle.wz_bytes.specs.Unsigned.{IsUnsigned, unsigned_at};
+ghost use Rattle.wz_bytes.specs.Signed.{IsSigned, signed_at};
 ghost use Rattle.wz_bytes.specs.Forms.{IsByte, IsPiece, byte_at, piece_at};
 ghost use Rattle.wz_bytes.specs.Name.{IsName, name_at};
 ghost use Rattle.wz_bytes.specs.Place.{Place, Moves, Passes};
 
 use crate::names::front_name;
+use crate::signed::signed_front;
 use crate::slices::piece;
-use crate::unsigned::read_unsigned;
+use crate::unsigned::unsigned_front;
 use std::marker::Model;
 
 /// A place in bytes that are read from the front. What is read is taken off; where that does not
@@ -68,10 +72,10 @@ impl<'a> Cursor<'a> {
 
     /// Takes `n` bytes.
     pub fn take(&mut self, n: usize) -> Option<&'a [u8]>
-        ensures found { IfSome result (λ piece. Passes (IsPiece n) piece.now self.old self.new) }
+        ensures found { IfSome result (λ p. Passes (IsPiece n) p.now self.old self.new) }
         ensures none { IsNone result → length self.old.left < n }
         ensures stays { IfNone result (self.new ≡ self.old) }
-        ensures exact { Moves (λ piece. piece.now) result self.old self.new (piece_at n self.old.left) }
+        ensures exact { Moves (λ p. p.now) result self.old self.new (piece_at n self.old.left) }
     {
         let (piece, rest) = piece(self.left, n)?;
         self.left = rest;
@@ -85,9 +89,45 @@ impl<'a> Cursor<'a> {
         ensures stays { IfNone result (self.new ≡ self.old) }
         ensures exact { Moves (λ n. n) result self.old self.new (unsigned_at 32 self.old.left) }
     {
-        let (value, end) = read_unsigned::<32>(self.left, 0)?;
-        self.left = &self.left[end..];
+        let (value, rest) = unsigned_front::<32>(self.left)?;
+        self.left = rest;
         Some(value as u32)
+    }
+
+    /// Takes a signed integer of 32 bits.
+    pub fn signed_32(&mut self) -> Option<i32>
+        ensures found { IfSome result (λ z. Passes (λ t y. IsSigned 32 t y) z self.old self.new) }
+        ensures none { IsNone result → NoFront (λ t y. IsSigned 32 t y) self.old.left }
+        ensures stays { IfNone result (self.new ≡ self.old) }
+        ensures exact { Moves (λ z. z) result self.old self.new (signed_at 32 self.old.left) }
+    {
+        let (value, rest) = signed_front::<32>(self.left)?;
+        self.left = rest;
+        Some(value as i32)
+    }
+
+    /// Takes a signed integer of 33 bits, as types of blocks are spelled.
+    pub fn signed_33(&mut self) -> Option<i64>
+        ensures found { IfSome result (λ z. Passes (λ t y. IsSigned 33 t y) z self.old self.new) }
+        ensures none { IsNone result → NoFront (λ t y. IsSigned 33 t y) self.old.left }
+        ensures stays { IfNone result (self.new ≡ self.old) }
+        ensures exact { Moves (λ z. z) result self.old self.new (signed_at 33 self.old.left) }
+    {
+        let (value, rest) = signed_front::<33>(self.left)?;
+        self.left = rest;
+        Some(value)
+    }
+
+    /// Takes a signed integer of 64 bits.
+    pub fn signed_64(&mut self) -> Option<i64>
+        ensures found { IfSome result (λ z. Passes (λ t y. IsSigned 64 t y) z self.old self.new) }
+        ensures none { IsNone result → NoFront (λ t y. IsSigned 64 t y) self.old.left }
+        ensures stays { IfNone result (self.new ≡ self.old) }
+        ensures exact { Moves (λ z. z) result self.old self.new (signed_at 64 self.old.left) }
+    {
+        let (value, rest) = signed_front::<64>(self.left)?;
+        self.left = rest;
+        Some(value)
     }
 
     /// Takes a name.
@@ -95,7 +135,7 @@ impl<'a> Cursor<'a> {
         ensures found { IfSome result (λ name. Passes IsName name.now self.old self.new) }
         ensures none { IsNone result → NoFront IsName self.old.left }
         ensures stays { IfNone result (self.new ≡ self.old) }
-        ensures exact { Moves (λ name. name.now) result self.old self.new (name_at self.old.left) }
+        ensures exact { Moves (λ s. s.now) result self.old self.new (name_at self.old.left) }
     {
         let (name, rest) = front_name(self.left)?;
         self.left = rest;

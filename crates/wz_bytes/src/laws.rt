@@ -3,7 +3,7 @@
 
 ghost use Rattle.wz_bytes.specs.Laws.{UnsignedIsExact, SignedIsExact, NameIsExact};
 ghost use Rattle.wz_bytes.specs.Laws.{OneUnsigned, OneSigned, OneName};
-ghost use Rattle.wz_bytes.specs.Laws.{UnsignedIsWithin, SignedIsWithin, UnsignedIsShort, SignedIsShort};
+ghost use Rattle.wz_bytes.specs.Laws.{UnsignedIsBounded, SignedIsBounded, UnsignedIsShort, SignedIsShort};
 ghost use Rattle.wz_bytes.specs.Laws.{UnsignedIsShortest, SignedIsShortest, NameIsSpelled};
 ghost use Rattle.wz_bytes.specs.Laws.{OneUnsignedOfEachLength, OneSignedOfEachLength};
 ghost use Rattle.wz_bytes.specs.Laws.{UnsignedIsReadAgain, SignedIsReadAgain, NameIsReadAgain};
@@ -22,16 +22,17 @@ pub fn at_most_one()
     ensures name { OneName }
 {}
 
-/// A spelling's value lies within the width, and its length within the width's groups of seven bits.
+/// A spelling's value lies within the width, and its length within the width's groups of seven
+/// bits.
 pub fn spelling_is_bounded()
-    ensures unsigned { UnsignedIsWithin }
-    ensures signed { SignedIsWithin }
+    ensures unsigned { UnsignedIsBounded }
+    ensures signed { SignedIsBounded }
     ensures unsigned_length { UnsignedIsShort }
     ensures signed_length { SignedIsShort }
 {}
 
-/// What is written spells the number at each width that holds it; no spelling is shorter, and no other
-/// is as short.
+/// What is written spells the number at each width that holds it; no spelling is shorter, and no
+/// other is as short.
 pub fn written_is_shortest()
     ensures unsigned { UnsignedIsShortest }
     ensures signed { SignedIsShortest }

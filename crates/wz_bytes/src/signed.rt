@@ -1,8 +1,10 @@
+//! Signed integers, read and written (Core Specification 2.0, section 5.2.2).
+
 ghost use Rattle.std.specs.Prelude.{◌≡◌, ℤ, ◌+◌, ◌-◌, ◌<◌, ◌≤◌, ◌^◌, ◌++◌, min, length, take, drop, slice_range, IfSome, IsNone, OnOk, OnErr};
 ghost use Rattle.std.specs.Option.{option_map};
 ghost use Rattle.wz_bytes.specs.Reading.{NoFront};
 ghost use Rattle.wz_bytes.specs.Unsigned.{IsWidth};
-ghost use Rattle.wz_bytes.specs.Signed.{IsSigned, IsWithin, last_group, signed_at};
+ghost use Rattle.wz_bytes.specs.Signed.{IsSigned, IsSignedNumber, last_group, signed_at};
 ghost use Rattle.wz_bytes.specs.Shortest.{is_one_group as one_group, low_group as lowest_group, shortest_signed};
 
 use crate::slices::from_place;
@@ -16,22 +18,42 @@ pub fn read_signed<const BITS: u32>(bytes: &[u8], at: usize) -> Option<(i64, usi
     ensures none { IsNone result → NoFront (λ t z. IsSigned BITS t z) (drop at bytes.now) }
 
     // What the caller knows of the number, and of the place behind it.
-    ensures below { IfSome result (λ r. IsWithin BITS r.0) }
+    ensures below { IfSome result (λ r. IsSignedNumber BITS r.0) }
     ensures within { IfSome result (λ r. (at < r.1) × (r.1 ≤ length bytes.now)) }
 
     // The same as an equation, for proofs about longer readings.
-    ensures exact { option_map (λ r. (r.0, drop r.1 bytes.now)) result ≡ signed_at BITS (drop at bytes.now) }
+    ensures exact { let read = signed_at BITS (drop at bytes.now) in
+        option_map (λ r. (r.0, drop r.1 bytes.now)) result ≡ read }
 {
-    let (value, rest) = front(BITS, from_place(bytes, at))?;
+    let (value, rest) = signed_front::<BITS>(from_place(bytes, at))?;
     Some((value, bytes.len() - rest.len()))
 }
 
-/// The number of at most so many bits in front, and the bytes behind it. Each call takes seven bits off.
+/// The number in front, and the bytes behind it. Most numbers are one byte, which is read at once.
+#[inline]
+#[tactic(auto, unfolding(crate::specs::Signed::signed_at))]
+pub(crate) fn signed_front<const BITS: u32>(bytes: &[u8]) -> Option<(i64, &[u8])>
+    requires { IsWidth BITS }
+    ensures below { IfSome result (λ r. IsSignedNumber BITS r.0) }
+    ensures shorter { IfSome result (λ r. length r.1.now < length bytes.now) }
+    ensures exact { option_map (λ r. (r.0, r.1.now)) result ≡ signed_at BITS bytes.now }
+{
+    match bytes {
+        [byte, rest @ ..] if *byte < 128 => {
+            let value = last_value(BITS, *byte)?;
+            Some((value, rest))
+        }
+        _ => front(BITS, bytes),
+    }
+}
+
+/// The number of at most so many bits in front, and the bytes behind it. Each call takes seven bits
+/// off.
 #[tactic(auto, unfolding(crate::specs::Signed::signed_at))]
 fn front(bits: u32, bytes: &[u8]) -> Option<(i64, &[u8])>
     requires least { 1 ≤ bits }
     requires most { bits ≤ 64 }
-    ensures below { IfSome result (λ r. IsWithin bits r.0) }
+    ensures below { IfSome result (λ r. IsSignedNumber bits r.0) }
     ensures shorter { IfSome result (λ r. length r.1.now < length bytes.now) }
     ensures exact { option_map (λ r. (r.0, r.1.now)) result ≡ signed_at bits bytes.now }
 {
@@ -54,7 +76,7 @@ fn front(bits: u32, bytes: &[u8]) -> Option<(i64, &[u8])>
 fn last_value(bits: u32, byte: u8) -> Option<i64>
     requires least { 1 ≤ bits }
     requires last { byte < 128 }
-    ensures below { IfSome result (λ z. IsWithin bits z) }
+    ensures below { IfSome result (λ z. IsSignedNumber bits z) }
     ensures exact { result ≡ last_group bits byte }
 {
     let half = half_of_group(bits);

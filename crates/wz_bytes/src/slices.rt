@@ -1,4 +1,6 @@
-ghost use Rattle.std.specs.Prelude.{◌≡◌, drop};
+//! Pieces of slices.
+
+ghost use Rattle.std.specs.Prelude.{◌≡◌, ◌<◌, length, drop, IsNone};
 ghost use Rattle.std.specs.Option.{option_map};
 ghost use Rattle.wz_bytes.specs.Forms.{piece_at};
 
@@ -11,7 +13,8 @@ pub(crate) fn from_place(bytes: &[u8], at: usize) -> &[u8]
 
 /// So many bytes in front, and those behind them.
 pub(crate) fn piece(bytes: &[u8], n: usize) -> Option<(&[u8], &[u8])>
-    ensures { option_map (λ p. (p.0.now, p.1.now)) result ≡ piece_at n bytes.now }
+    ensures none { IsNone result → length bytes.now < n }
+    ensures exact { option_map (λ p. (p.0.now, p.1.now)) result ≡ piece_at n bytes.now }
 {
     if n > bytes.len() {
         return None;

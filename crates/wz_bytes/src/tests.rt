@@ -1,6 +1,11 @@
 //! Values from the standard's rules, and published examples of LEB128.
 
-use crate::{Cursor, put_signed, put_unsigned, read_signed, read_unsigned};
+ghost use Rattle.wz_bytes.specs.declared.vectors.ItemFault.TheVariants.{Bad};
+
+use crate::{
+    Cursor, Item, ItemFault, put_signed, put_unsigned, read_all, read_signed, read_unsigned,
+};
+use std::alloc::Global as Heap;
 use std::test::Fail;
 
 // The bits, the bytes, and the value with the place behind it.
@@ -58,8 +63,8 @@ const SIGNED: [(u32, &[u8], Option<(i64, usize)>); 16] = [
     ),
 ];
 
-// The bits, the last byte of a spelling of the greatest length behind bytes of 80, and the value. None
-// stands where one unused bit is wrong, each in turn at either sign.
+// The bits, the last byte of a spelling of the greatest length behind bytes of 80, and the value.
+// None stands where one unused bit is wrong, each in turn at either sign.
 const LAST_UNSIGNED: [(u32, u8, Option<u64>); 14] = [
     (32, 0x00, Some(0)),
     (32, 0x10, None),
@@ -179,12 +184,12 @@ fn writes_numbers(rt: HostRuntime) -> Result<(), Fail> {
     for (value, bytes) in WRITTEN_UNSIGNED {
         let mut out = Vec::new(rt.alloc());
         put_unsigned(&mut out, value)?;
-        assert_eq!(rt; out.as_slice(), bytes);
+        assert_eq!(rt; out.as_slice(), bytes, "u {value}");
     }
     for (value, bytes) in WRITTEN_SIGNED {
         let mut out = Vec::new(rt.alloc());
         put_signed(&mut out, value)?;
-        assert_eq!(rt; out.as_slice(), bytes);
+        assert_eq!(rt; out.as_slice(), bytes, "s {value}");
     }
     Ok(())
 }
@@ -205,4 +210,63 @@ fn walks(rt: HostRuntime) {
     assert_eq!(rt; cursor.take(2), Some([0xC3, 0x28].as_slice()));
     assert_eq!(rt; cursor.name(), None);
     assert_eq!(rt; cursor.left(), [0x05, 0x61].as_slice());
+}
+
+#[test]
+fn walks_signed(rt: HostRuntime) {
+    // -128 twice, 2^32 - 1, which 32 bits don't hold, and -2 in ten bytes, too many for 33 bits.
+    let bytes = [
+        0x80, 0x7F, 0x80, 0x7F, 0xFF, 0xFF, 0xFF, 0xFF, 0x0F, 0xFE, 0xFF, 0xFF, 0xFF, 0xFF, 0xFF,
+        0xFF, 0xFF, 0xFF, 0x7F,
+    ];
+    let mut cursor = Cursor::new(&bytes);
+    assert_eq!(rt; cursor.signed_32(), Some(-128));
+    assert_eq!(rt; cursor.signed_64(), Some(-128));
+    assert_eq!(rt; cursor.signed_32(), None);
+    assert_eq!(rt; cursor.signed_33(), Some(4294967295));
+    assert_eq!(rt; cursor.signed_33(), None);
+    assert_eq!(rt; cursor.signed_64(), Some(-2));
+    assert_eq!(rt; cursor.at(), 19);
+}
+
+/// Bytes, as the items of a vector.
+struct Bytes;
+
+impl<'a> Item<'a> for Bytes {
+    ghost use Rattle.std.specs.Prelude.{◌≡◌, Some, None};
+    ghost use Rattle.wz_bytes.specs.Forms.{byte_at};
+
+    type Value = u8;
+
+    ghost reads = { λ bytes x rest. byte_at bytes ≡ Some (x, rest) };
+
+    ghost bad = { λ bytes. byte_at bytes ≡ None };
+
+    fn take(_alloc: Heap, cursor: &mut Cursor<'a>) -> Result<u8, ItemFault> {
+        match cursor.byte() {
+            Some(byte) => Ok(byte),
+            None => Err(ItemFault::Bad),
+        }
+    }
+}
+
+// What a section's contents are as a vector of bytes.
+const VECTORS: [(&[u8], Result<&[u8], ItemFault>); 6] = [
+    (&[], Err(ItemFault::Bad)),
+    (&[0x00], Ok(&[])),
+    (&[0x02, 0x05, 0x06], Ok(&[0x05, 0x06])),
+    (&[0x82, 0x00, 0x05, 0x06], Ok(&[0x05, 0x06])),
+    (&[0x02, 0x05], Err(ItemFault::Bad)),
+    (&[0x02, 0x05, 0x06, 0x07], Err(ItemFault::Bad)),
+];
+
+#[test]
+fn reads_vectors(rt: HostRuntime) {
+    for (bytes, items) in VECTORS {
+        match (read_all::<Bytes>(rt.alloc(), bytes), items) {
+            (Ok(read), Ok(items)) => assert_eq!(rt; read.as_slice(), items, "{bytes:?}"),
+            (Err(fault), Err(wanted)) => assert_eq!(rt; fault, wanted, "{bytes:?}"),
+            (read, _) => assert!(rt; false, "{bytes:?}, read: {}", read.is_ok()),
+        }
+    }
 }

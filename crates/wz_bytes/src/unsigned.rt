@@ -1,3 +1,5 @@
+//! Unsigned integers, read and written (Core Specification 2.0, section 5.2.2).
+
 ghost use Rattle.std.specs.Prelude.{◌≡◌, ◌<◌, ◌≤◌, ◌^◌, ◌++◌, nat_lt, length, take, drop, slice_range, IfSome, IsNone, OnOk, OnErr};
 ghost use Rattle.std.specs.Option.{option_map};
 ghost use Rattle.wz_bytes.specs.Reading.{NoFront};
@@ -19,13 +21,30 @@ pub fn read_unsigned<const BITS: u32>(bytes: &[u8], at: usize) -> Option<(u64, u
     ensures within { IfSome result (λ r. (at < r.1) × (r.1 ≤ length bytes.now)) }
 
     // The same as an equation, for proofs about longer readings.
-    ensures exact { option_map (λ r. (r.0, drop r.1 bytes.now)) result ≡ unsigned_at BITS (drop at bytes.now) }
+    ensures exact { let read = unsigned_at BITS (drop at bytes.now) in
+        option_map (λ r. (r.0, drop r.1 bytes.now)) result ≡ read }
 {
-    let (value, rest) = front(BITS, from_place(bytes, at))?;
+    let (value, rest) = unsigned_front::<BITS>(from_place(bytes, at))?;
     Some((value, bytes.len() - rest.len()))
 }
 
-/// The number of at most so many bits in front, and the bytes behind it. Each call takes seven bits off.
+/// The number in front, and the bytes behind it. Most numbers are one byte, which is read at once.
+#[inline]
+#[tactic(auto, using(crate::proofs::UnsignedLemmas::widths), unfolding(crate::specs::Unsigned::unsigned_at))]
+pub(crate) fn unsigned_front<const BITS: u32>(bytes: &[u8]) -> Option<(u64, &[u8])>
+    requires { IsWidth BITS }
+    ensures below { IfSome result (λ r. r.0 < 2 ^ BITS) }
+    ensures shorter { IfSome result (λ r. length r.1.now < length bytes.now) }
+    ensures exact { option_map (λ r. (r.0, r.1.now)) result ≡ unsigned_at BITS bytes.now }
+{
+    match bytes {
+        [byte, rest @ ..] if *byte < 128 => Some((u64::from(*byte), rest)),
+        _ => front(BITS, bytes),
+    }
+}
+
+/// The number of at most so many bits in front, and the bytes behind it. Each call takes seven bits
+/// off.
 #[tactic(auto, using(crate::proofs::UnsignedLemmas::steps), unfolding(crate::specs::Unsigned::unsigned_at))]
 fn front(bits: u32, bytes: &[u8]) -> Option<(u64, &[u8])>
     requires { bits ≤ 64 }

@@ -1,4 +1,4 @@
--- The laws of trees and of bodies that are being built.
+-- The laws of trees, of bodies that are being built and of the tables, as terms. Proofs of other crates cite this file and no other one of these proofs.
 use Rattle.std.proofs.Common.{◌≡◌, ◌≢◌, ℕ, zero, suc, ◌+◌, ◌<◌, List, [], ◌∷◌, ◌++◌, Some, None, length, drop, refl, sym, ap, ◌∙◌, zero-add, cond, arith}
 use Rattle.std.specs.Prelude.{slice_get, nat_lt}
 use Rattle.std.proofs.lemmas.List.{length-append, length-set, append-nil}
@@ -7,8 +7,12 @@ use Rattle.wz_code.specs.declared.instr.Instr.{Instr}
 use Rattle.wz_code.specs.BodyParts.{Blocks, block_at, put_instr}
 use Rattle.wz_code.specs.Trees.{Leaf, leaf_of, tree_in, code_in}
 use Rattle.wz_code.specs.BlockRule.{Every, named, times, NamesRise, InPools, PoolRule}
-use Rattle.wz_code.specs.Laws.{TreeOfBlock, CodeAtStart, CodeAtInstr, CodeAtEnd, StartsBuilding, HeldIsThere, TakingInstr, TakingBlock, TakingLabel, TakingType, TakingLocals, CountsInstr, CountsBlock, CountsLabel, CountsType, CountsLocals, ShortByCount}
-use Rattle.wz_code.proofs.TreeLemmas.{every-of, tree_in-block, tree_in-past, tree-other, tree-same, tree-block, tree-pools, at_new}
+use Rattle.wz_code.specs.Laws.{TreeOfBlock, CodeAtStart, CodeAtInstr, CodeAtEnd, StartsBuilding, HeldIsThere, TakingInstr, TakingBlock, TakingLabel, TakingType, TakingPools, TakingLocals, CountsInstr, CountsBlock, CountsLabel, CountsType, CountsLocals, ShortByCount}
+pub use Rattle.wz_code.proofs.TreeLemmas.{every-of, joined_end, joined_assoc}
+pub use Rattle.wz_code.proofs.RuleLemmas.{times-append, times-here, not-times}
+pub use Rattle.wz_code.proofs.NumericLemmas.{names_operation, operation_named}
+pub use Rattle.wz_code.proofs.AccessLemmas.{names_access, access_named}
+use Rattle.wz_code.proofs.TreeLemmas.{tree_in-block, tree_in-past, tree-other, tree-same, tree-block, tree-pools, at_new}
 use Rattle.wz_code.proofs.RuleLemmas.{each-instr, rise-instr, rise-block, once-instr, once-block, held-once, held-not, held-within, leaf-more, in-more, count-instr, count-block, count-le}
 
 -- ---- the tree of a block, and the code at a place of it
@@ -65,12 +69,15 @@ taking_instr body before number instr now building takes =
     let within = held-within body.blocks number before building.once takes.held in
     let not = held-not body.blocks number before building.once takes.held in
     let rises = rise-instr body.blocks number instr building.names_rise within takes.rises in
-    let apart : Every (λ k. k ≢ number) (named instr) = every-of (λ k. number < k) (λ k. k ≢ number) (λ k h e. absurd (omega arith)) (named instr) takes.rises in
+    let apart : Every (λ k. k ≢ number) (named instr) =
+    every-of (λ k. number < k) (λ k. k ≢ number) (λ k h e. absurd (omega arith)) (named instr) takes.rises in
     record {
       building = record {
         names_rise = rises;
         once = once-instr body.blocks number instr before now within takes.moved building.once;
-        pools = record { each = λ n. each-instr (λ _ i. InPools body.labels body.types i) body.blocks number instr within (λ m. building.pools.each m) takes.pools n };
+        pools = record {
+          each = λ n. each-instr (λ _ i. InPools body.labels body.types i) body.blocks number instr within (λ m. building.pools.each m) takes.pools n;
+        };
       };
       here = tree-same leaf body.blocks number instr building.names_rise rises not within apart;
       elsewhere = λ n other. tree-other leaf body.blocks number instr building.names_rise rises not n other;
@@ -92,12 +99,32 @@ taking_block body before now building grown =
 
 -- where the pools grow, each leaf stays, and so does each tree
 pools_grow : (labels more : List ℕ) (types others : List ValType) (blocks : Blocks) → NamesRise blocks → PoolRule labels types blocks
-    → PoolRule (labels ++ more) (types ++ others) blocks × ((n : ℕ) → tree_in (λ i. leaf_of (labels ++ more) (types ++ others) i) blocks n ≡ tree_in (λ i. leaf_of labels types i) blocks n)
+    → PoolRule (labels ++ more) (types ++ others) blocks
+    × ((n : ℕ) → tree_in (λ i. leaf_of (labels ++ more) (types ++ others) i) blocks n ≡ tree_in (λ i. leaf_of labels types i) blocks n)
 pools_grow labels more types others blocks rise pools = (
-  record { each = λ n. every-of (λ i. InPools labels types i) (λ i. InPools (labels ++ more) (types ++ others) i) (λ i h. in-more labels more types others i h) (block_at blocks n) (pools.each n) },
-  λ n. sym (tree-pools (λ i. leaf_of labels types i) (λ i. leaf_of (labels ++ more) (types ++ others) i) blocks rise
-      (λ m. every-of (λ i. InPools labels types i) (λ i. leaf_of labels types i ≡ leaf_of (labels ++ more) (types ++ others) i) (λ i h. leaf-more labels more types others i h) (block_at blocks m) (pools.each m)) n),
-)
+  record { each = λ n. every-of In In_more (λ i h. in-more labels more types others i h) (block_at blocks n) (pools.each n) },
+  λ n. sym (tree-pools leaf leaf_more blocks rise
+      (λ m. every-of In (λ i. leaf i ≡ leaf_more i) (λ i h. leaf-more labels more types others i h) (block_at blocks m) (pools.each m)) n),
+) where
+  In : Instr → Type 0
+  In i = InPools labels types i
+
+  In_more : Instr → Type 0
+  In_more i = InPools (labels ++ more) (types ++ others) i
+
+  leaf : Instr → Leaf
+  leaf i = leaf_of labels types i
+
+  leaf_more : Instr → Leaf
+  leaf_more i = leaf_of (labels ++ more) (types ++ others) i
+
+pub taking_pools : TakingPools
+taking_pools body held labels types building =
+    let grow = pools_grow body.labels labels body.types types body.blocks building.names_rise building.pools in
+    record {
+      building = record { names_rise = building.names_rise; once = building.once; pools = grow.0 };
+      trees = grow.1;
+    }
 
 pub taking_label : TakingLabel
 taking_label body held label building =

@@ -1,6 +1,8 @@
 pub mod TreeLemmas
 pub mod RuleLemmas
-pub mod BodyLemmas
+pub mod LayoutLemmas
+pub mod BuildLemmas
+pub mod OrderLemmas
 pub mod LawLemmas
 pub mod WalkLemmas
 pub mod FindLemmas

@@ -41,7 +41,8 @@ fails byte number op h = at (has_opcode byte number op) refl where
   at false e = refl
 
 -- the row that was found, if any has the opcode, is the one that the table names
-pub op_at-is : (row : Option NumOp) (byte : ℕ) (number : Option ℕ) → IfSome row (λ op. opcode_of op ≡ (byte, number)) → (IsNone row → (op : NumOp) → opcode_of op ≢ (byte, number)) → row ≡ op_at byte number
+pub op_at-is : (row : Option NumOp) (byte : ℕ) (number : Option ℕ) → IfSome row (λ op. opcode_of op ≡ (byte, number))
+    → (IsNone row → (op : NumOp) → opcode_of op ≢ (byte, number)) → row ≡ op_at byte number
 unfolding op_at
 op_at-is None byte number found none = sym (find-none (λ op. has_opcode byte number op) (λ op. fails byte number op (none refl op)) operations)
 op_at-is (Some op) byte number found none = sym (ap (λ (o : ℕ × Option ℕ). op_at o.0 o.1) (sym found) ∙ operation_named op)

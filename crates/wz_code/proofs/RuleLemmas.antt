@@ -41,7 +41,8 @@ namings-append : (k : ℕ) (xs : List Instr) (instr : Instr) → namings k (xs +
 namings-append k [] instr = omega arith
 namings-append k (x ∷ xs) instr = omega (arith, namings-append k xs instr)
 
-namings-set : (k : ℕ) (blocks : Blocks) (b : ℕ) (x : List Instr) → b < length blocks → all_namings k (set blocks b x) + namings k (block_at blocks b) ≡ all_namings k blocks + namings k x
+namings-set : (k : ℕ) (blocks : Blocks) (b : ℕ) (x : List Instr) → b < length blocks
+    → all_namings k (set blocks b x) + namings k (block_at blocks b) ≡ all_namings k blocks + namings k x
 namings-set k [] b x h = absurd (omega arith)
 namings-set k (y ∷ ys) zero x h = omega arith
 namings-set k (y ∷ ys) (suc b) x h = let rec = namings-set k ys b x (omega arith) in omega (arith, rec)
@@ -117,7 +118,8 @@ taken-more first count xs more h =
     rw (drop-append-le first xs more a) (take-append-le count (drop first xs) more b)
 
 -- a leaf stays as it is where the pools grow
-pub leaf-more : (labels more : List ℕ) (types others : List ValType) (instr : Instr) → InPools labels types instr → leaf_of labels types instr ≡ leaf_of (labels ++ more) (types ++ others) instr
+pub leaf-more : (labels more : List ℕ) (types others : List ValType) (instr : Instr) → InPools labels types instr
+    → leaf_of labels types instr ≡ leaf_of (labels ++ more) (types ++ others) instr
 leaf-more labels more types others (BrTable first count last) h = ap (λ (ls : List ℕ). TableBranch ls last) (sym (taken-more first count labels more h))
 leaf-more labels more types others (SelectTyped first count) h = ap (λ (ts : List ValType). TypedSelect ts) (sym (taken-more first count types others h))
 leaf-more labels more types others instr h = refl

@@ -36,7 +36,8 @@ headed-same leaf other f g P same (If shape first second) e h rest more r = cc (
 headed-same leaf other f g P same instr e h rest more r = cc (e, r)
 
 -- two readings agree on instructions whose leaves and named blocks they read alike
-pub expand-same : (leaf other : Instr → Leaf) (f g : ℕ → Code) (P : ℕ → Type 0) → ((k : ℕ) → P k → f k ≡ g k) → (code : List Instr) → Every (λ instr. leaf instr ≡ other instr) code → Names P code
+pub expand-same : (leaf other : Instr → Leaf) (f g : ℕ → Code) (P : ℕ → Type 0) → ((k : ℕ) → P k → f k ≡ g k)
+    → (code : List Instr) → Every (λ instr. leaf instr ≡ other instr) code → Names P code
     → expand leaf f code ≡ expand other g code
 expand-same leaf other f g P same [] e h = refl
 expand-same leaf other f g P same (instr ∷ rest) e h =
@@ -78,7 +79,8 @@ same_leaves : (leaf : Instr → Leaf) (code : List Instr) → Every (λ instr. l
 same_leaves leaf code = every-all (λ instr. leaf instr ≡ leaf instr) (λ instr. refl) code
 
 -- from the number of blocks on, more depth changes nothing
-tree_by-same : (leaf : Instr → Leaf) (blocks : Blocks) → NamesRise blocks → (f g n : ℕ) → length blocks ≤ f + n → length blocks ≤ g + n → tree_by f leaf blocks n ≡ tree_by g leaf blocks n
+tree_by-same : (leaf : Instr → Leaf) (blocks : Blocks) → NamesRise blocks → (f g n : ℕ) → length blocks ≤ f + n
+    → length blocks ≤ g + n → tree_by f leaf blocks n ≡ tree_by g leaf blocks n
 unfolding tree_by
 tree_by-same leaf blocks rise zero zero n hf hg = refl
 tree_by-same leaf blocks rise zero (suc g) n hf hg = let e : block_at blocks n ≡ [] = block_at-past blocks n (omega arith) in rw e refl
@@ -92,23 +94,27 @@ tree_by-same leaf blocks rise (suc f) (suc g) n hf hg =
 pub tree_in-block : (leaf : Instr → Leaf) (blocks : Blocks) → NamesRise blocks → (n : ℕ) → tree_in leaf blocks n ≡ expand leaf (λ k. tree_in leaf blocks k) (block_at blocks n)
 unfolding tree_by tree_in
 tree_in-block leaf blocks rise n =
-    let one : tree_by (length blocks) leaf blocks n ≡ tree_by (suc (length blocks)) leaf blocks n = tree_by-same leaf blocks rise (length blocks) (suc (length blocks)) n (omega arith) (omega arith) in
+    let deep = length blocks in
+    let one : tree_by deep leaf blocks n ≡ tree_by (suc deep) leaf blocks n = tree_by-same leaf blocks rise deep (suc deep) n (omega arith) (omega arith) in
     one
 
 pub tree_in-past : (leaf : Instr → Leaf) (blocks : Blocks) → NamesRise blocks → (n : ℕ) → length blocks ≤ n → tree_in leaf blocks n ≡ End
 tree_in-past leaf blocks rise n h = tree_in-block leaf blocks rise n ∙ ap (λ (code : List Instr). expand leaf (λ k. tree_in leaf blocks k) code) (block_at-past blocks n h)
 
-tree_by-agree : (leaf other : Instr → Leaf) (xs ys : Blocks) (Free : ℕ → Type 0) → ((n : ℕ) → Free n → block_at xs n ≡ block_at ys n) → ((n : ℕ) → Free n → Every (λ instr. leaf instr ≡ other instr) (block_at xs n))
+tree_by-agree : (leaf other : Instr → Leaf) (xs ys : Blocks) (Free : ℕ → Type 0) → ((n : ℕ) → Free n → block_at xs n ≡ block_at ys n)
+    → ((n : ℕ) → Free n → Every (λ instr. leaf instr ≡ other instr) (block_at xs n))
     → ((n : ℕ) → Free n → Names Free (block_at xs n)) → (depth n : ℕ) → Free n → tree_by depth leaf xs n ≡ tree_by depth other ys n
 unfolding tree_by
 tree_by-agree leaf other xs ys Free same leaves names zero n h = refl
 tree_by-agree leaf other xs ys Free same leaves names (suc depth) n h =
-    expand-same leaf other (λ k. tree_by depth leaf xs k) (λ k. tree_by depth other ys k) Free (λ k free. tree_by-agree leaf other xs ys Free same leaves names depth k free) (block_at xs n) (leaves n h) (names n h)
+    expand-same leaf other (λ k. tree_by depth leaf xs k) (λ k. tree_by depth other ys k) Free
+    (λ k free. tree_by-agree leaf other xs ys Free same leaves names depth k free) (block_at xs n) (leaves n h) (names n h)
     ∙ ap (λ (block : List Instr). expand other (λ k. tree_by depth other ys k) block) (same n h)
 
 -- blocks that are the same, are read alike and name only such blocks, are the same trees
 pub tree_in-agree : (leaf other : Instr → Leaf) (xs ys : Blocks) (Free : ℕ → Type 0) → NamesRise xs → NamesRise ys → ((n : ℕ) → Free n → block_at xs n ≡ block_at ys n)
-    → ((n : ℕ) → Free n → Every (λ instr. leaf instr ≡ other instr) (block_at xs n)) → ((n : ℕ) → Free n → Names Free (block_at xs n)) → (n : ℕ) → Free n → tree_in leaf xs n ≡ tree_in other ys n
+    → ((n : ℕ) → Free n → Every (λ instr. leaf instr ≡ other instr) (block_at xs n)) → ((n : ℕ) → Free n → Names Free (block_at xs n))
+    → (n : ℕ) → Free n → tree_in leaf xs n ≡ tree_in other ys n
 unfolding tree_in
 tree_in-agree leaf other xs ys Free rise_xs rise_ys same leaves names n h =
     tree_by-same leaf xs rise_xs (length xs) (length xs + length ys) n (omega arith) (omega arith)
@@ -130,7 +136,8 @@ tree-other leaf blocks b instr rise rises not n other =
     (λ m h. sym (at_other blocks b m (block_at blocks b ++ instr ∷ []) h)) (λ m h. same_leaves leaf (block_at blocks m)) (λ m h. not.each m) n other)
 
 -- the block has the instruction at its end, read by what was there before
-pub tree-same : (leaf : Instr → Leaf) (blocks : Blocks) (b : ℕ) (instr : Instr) → NamesRise blocks → NamesRise (put_instr blocks b instr) → NamesNot blocks b → b < length blocks → Every (λ k. k ≢ b) (named instr)
+pub tree-same : (leaf : Instr → Leaf) (blocks : Blocks) (b : ℕ) (instr : Instr) → NamesRise blocks → NamesRise (put_instr blocks b instr)
+    → NamesNot blocks b → b < length blocks → Every (λ k. k ≢ b) (named instr)
     → tree_in leaf (put_instr blocks b instr) b ≡ joined (tree_in leaf blocks b) (headed leaf (λ k. tree_in leaf blocks k) instr End)
 tree-same leaf blocks b instr rise rises not within others =
     let new = put_instr blocks b instr in
@@ -141,10 +148,12 @@ tree-same leaf blocks b instr rise rises not within others =
     let old : expand leaf (λ k. tree_in leaf new k) grown ≡ expand leaf (λ k. tree_in leaf blocks k) grown =
     expand-same leaf leaf (λ k. tree_in leaf new k) (λ k. tree_in leaf blocks k) (λ k. k ≢ b) (λ k h. tree-other leaf blocks b instr rise rises not k h) grown
     (same_leaves leaf grown) (every-push (λ i. Every (λ k. k ≢ b) (named i)) (block_at blocks b) instr (not.each b) others) in
-    let parts : expand leaf (λ k. tree_in leaf blocks k) grown ≡ joined (expand leaf (λ k. tree_in leaf blocks k) (block_at blocks b)) (headed leaf (λ k. tree_in leaf blocks k) instr End) =
+    let last : Code = headed leaf (λ k. tree_in leaf blocks k) instr End in
+    let front : Code = expand leaf (λ k. tree_in leaf blocks k) (block_at blocks b) in
+    let parts : expand leaf (λ k. tree_in leaf blocks k) grown ≡ joined front last =
     expand-append leaf (λ k. tree_in leaf blocks k) (block_at blocks b) (instr ∷ []) in
-    let before : joined (expand leaf (λ k. tree_in leaf blocks k) (block_at blocks b)) (headed leaf (λ k. tree_in leaf blocks k) instr End) ≡ joined (tree_in leaf blocks b) (headed leaf (λ k. tree_in leaf blocks k) instr End) =
-    ap (λ (x : Code). joined x (headed leaf (λ k. tree_in leaf blocks k) instr End)) (sym (tree_in-block leaf blocks rise b)) in
+    let before : joined front last ≡ joined (tree_in leaf blocks b) last =
+    ap (λ (x : Code). joined x last) (sym (tree_in-block leaf blocks rise b)) in
     law ∙ at ∙ old ∙ parts ∙ before
 
 -- ---- a block more
@@ -163,7 +172,8 @@ tree-block leaf blocks rise rises n =
 -- ---- other pools
 
 -- where each leaf is read as before, so is each tree
-pub tree-pools : (leaf other : Instr → Leaf) (blocks : Blocks) → NamesRise blocks → ((n : ℕ) → Every (λ instr. leaf instr ≡ other instr) (block_at blocks n)) → (n : ℕ) → tree_in leaf blocks n ≡ tree_in other blocks n
+pub tree-pools : (leaf other : Instr → Leaf) (blocks : Blocks) → NamesRise blocks → ((n : ℕ) → Every (λ instr. leaf instr ≡ other instr) (block_at blocks n))
+    → (n : ℕ) → tree_in leaf blocks n ≡ tree_in other blocks n
 tree-pools leaf other blocks rise leaves n =
     tree_in-agree leaf other blocks blocks (λ _. Unit {0}) rise rise (λ m h. refl) (λ m h. leaves m)
     (λ m h. every-all (λ i. Every (λ _. Unit {0}) (named i)) (λ i. every-all (λ _. Unit {0}) (λ _. tt) (named i)) (block_at blocks m)) n tt

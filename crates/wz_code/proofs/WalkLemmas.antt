@@ -21,13 +21,15 @@ parts-at [] i d h = absurd (omega arith)
 parts-at (y ∷ ys) zero d h = refl
 parts-at (y ∷ ys) (suc i) d h = let more : suc i + 1 ≡ suc (i + 1) = omega arith in rw more (ap (λ (zs : List Instr). y ∷ zs) (parts-at ys i d (omega arith)))
 
-pub shows-next : {M : Type 0} (after : Instr → M → M) (block : List Instr) (i : ℕ) (d : Instr) (before at now : M) → i < length block → at ≡ gathered after (take i block) before → now ≡ after (get_or block i d) at
+pub shows-next : {M : Type 0} (after : Instr → M → M) (block : List Instr) (i : ℕ) (d : Instr) (before at now : M) → i < length block
+    → at ≡ gathered after (take i block) before → now ≡ after (get_or block i d) at
     → now ≡ gathered after (take (i + 1) block) before
 shows-next after block i d before at now h so_far seen =
     seen ∙ ap (λ (m : _). after (get_or block i d) m) so_far ∙ sym (gathered-append after (take i block) (get_or block i d ∷ []) before)
     ∙ ap (λ (is : List Instr). gathered after is before) (sym (taken-next block i d h))
 
-pub stops-at : {M E : Type 0} (after : Instr → M → M) (refuses : Instr → M → E → Type 0) (all block : List Instr) (i : ℕ) (d : Instr) (before at now : M) (fault : E) → all ≡ block → i < length block
+pub stops-at : {M E : Type 0} (after : Instr → M → M) (refuses : Instr → M → E → Type 0) (all block : List Instr) (i : ℕ) (d : Instr) (before at now : M) (fault : E)
+    → all ≡ block → i < length block
     → at ≡ gathered after (take i block) before → now ≡ at → refuses (get_or block i d) at fault → StopsAt after refuses all before now fault
 stops-at after refuses all block i d before at now fault is h so_far kept cause = record {
   shown = take i block;
@@ -54,7 +56,8 @@ in_order-parts (b ∷ bs) (suc n) h =
     let more : suc n + 1 ≡ suc (n + 1) = omega arith in
     rw more (ap (λ (is : List Instr). b ++ is) (in_order-parts bs n (omega arith)) ∙ sym (append_assoc b (in_order (take n bs)) (block_at bs n ++ in_order (drop (n + 1) bs))))
 
-pub shows-block : {M : Type 0} (after : Instr → M → M) (blocks : Blocks) (n : ℕ) (before at now : M) → n < length blocks → at ≡ gathered after (in_order (take n blocks)) before → now ≡ gathered after (block_at blocks n) at
+pub shows-block : {M : Type 0} (after : Instr → M → M) (blocks : Blocks) (n : ℕ) (before at now : M) → n < length blocks
+    → at ≡ gathered after (in_order (take n blocks)) before → now ≡ gathered after (block_at blocks n) at
     → now ≡ gathered after (in_order (take (n + 1) blocks)) before
 shows-block after blocks n before at now h so_far seen =
     seen ∙ ap (λ (m : _). gathered after (block_at blocks n) m) so_far ∙ sym (gathered-append after (in_order (take n blocks)) (block_at blocks n) before)

@@ -42,6 +42,10 @@ with_label body label = record body { labels = body.labels ++ label ∷ [] }
 abbrev pub with_type : BodyParts → ValType → BodyParts
 with_type body type = record body { types = body.types ++ type ∷ [] }
 
+-- several labels and types at once
+abbrev pub with_pools : BodyParts → List ℕ → List ValType → BodyParts
+with_pools body labels types = record body { labels = body.labels ++ labels; types = body.types ++ types }
+
 -- ---- the number of items
 
 abbrev pub instr_count : Blocks → ℕ

@@ -1,9 +1,9 @@
 -- What holds of trees, and of a body while it is built (sections 2.4.8 and 2.4.9 of the Core Specification).
-use Rattle.std.specs.Prelude.{◌≡◌, ◌≢◌, ℕ, ◌+◌, ◌-◌, ◌^◌, ◌<◌, ◌≤◌, List, [], ◌∷◌, length, Some, None, slice_get}
+use Rattle.std.specs.Prelude.{◌≡◌, ◌≢◌, ℕ, ◌+◌, ◌-◌, ◌^◌, ◌<◌, ◌≤◌, List, [], ◌∷◌, ◌++◌, length, Some, None, slice_get}
 use Rattle.wz_types.specs.declared.types.ValType.{ValType}
 use Rattle.wz_code.specs.declared.instr.Instr.{Instr}
-use Rattle.wz_code.specs.BodyParts.{BodyParts, block_at, no_parts, with_locals, with_instr, with_block, with_label, with_type, item_count}
-use Rattle.wz_code.specs.Trees.{End, joined, tree_of, code_in, code_from, headed_in}
+use Rattle.wz_code.specs.BodyParts.{BodyParts, block_at, no_parts, with_locals, with_instr, with_block, with_label, with_type, with_pools, item_count}
+use Rattle.wz_code.specs.Trees.{Code, End, joined, tree_of, code_in, code_from, headed_in}
 use Rattle.wz_code.specs.BlockRule.{Every, named, times, NamesRise, InPools, IsBuilding, IsShort}
 
 -- ---- the tree of a block, and the code at a place of it
@@ -21,6 +21,26 @@ CodeAtInstr = (body : BodyParts) (number place : ℕ) (instr : Instr) → slice_
 
 abbrev pub CodeAtEnd : Type 0
 CodeAtEnd = (body : BodyParts) (number place : ℕ) → slice_get (block_at body.blocks number) place ≡ None → code_from body number place ≡ End
+
+-- ---- code and more code behind it
+
+abbrev pub JoinedEnd : Type 0
+JoinedEnd = (code : Code) → joined code End ≡ code
+
+abbrev pub JoinedAssoc : Type 0
+JoinedAssoc = (first second third : Code) → joined (joined first second) third ≡ joined first (joined second third)
+
+-- ---- how often a number stands in a list
+
+abbrev pub TimesAppend : Type 0
+TimesAppend = (number : ℕ) (xs ys : List ℕ) → times number (xs ++ ys) ≡ times number xs + times number ys
+
+abbrev pub TimesHere : Type 0
+TimesHere = (number : ℕ) (numbers : List ℕ) → times number (number ∷ numbers) ≡ 1 + times number numbers
+
+-- a list in which it never stands has other numbers alone
+abbrev pub NotTimes : Type 0
+NotTimes = (number : ℕ) (numbers : List ℕ) → times number numbers ≡ 0 → Every (λ n. n ≢ number) numbers
 
 -- ---- a body that is being built
 
@@ -46,7 +66,8 @@ pub record InstrTaken (body : BodyParts) (number : ℕ) (instr : Instr) (now : L
   pub elsewhere : (n : ℕ) → n ≢ number → tree_of (with_instr body number instr) n ≡ tree_of body n
 
 abbrev pub TakingInstr : Type 0
-TakingInstr = (body : BodyParts) (before : List ℕ) (number : ℕ) (instr : Instr) (now : List ℕ) → IsBuilding body before → TakesInstr body before number instr now → InstrTaken body number instr now
+TakingInstr = (body : BodyParts) (before : List ℕ) (number : ℕ) (instr : Instr) (now : List ℕ)
+    → IsBuilding body before → TakesInstr body before number instr now → InstrTaken body number instr now
 
 -- the new block is empty, and the other trees stay
 pub record BlockTaken (body : BodyParts) (now : List ℕ) : Type 0 where
@@ -68,6 +89,10 @@ TakingLabel = (body : BodyParts) (held : List ℕ) (label : ℕ) → IsBuilding 
 
 abbrev pub TakingType : Type 0
 TakingType = (body : BodyParts) (held : List ℕ) (type : ValType) → IsBuilding body held → StaysBuilding body (with_type body type) held
+
+-- several labels and types at once
+abbrev pub TakingPools : Type 0
+TakingPools = (body : BodyParts) (held labels : List ℕ) (types : List ValType) → IsBuilding body held → StaysBuilding body (with_pools body labels types) held
 
 abbrev pub TakingLocals : Type 0
 TakingLocals = (body : BodyParts) (held : List ℕ) (count : ℕ) (type : ValType) → IsBuilding body held → StaysBuilding body (with_locals body count type) held

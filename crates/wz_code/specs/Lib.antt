@@ -5,3 +5,5 @@ pub mod Trees
 pub mod BlockRule
 pub mod Walking
 pub mod Laws
+pub mod Layout
+pub mod Laid

@@ -1,4 +1,5 @@
-//! The loads and stores of memories (Core Specification 2.0, sections 2.4.7 and 5.4.6), by one table.
+//! The loads and stores of memories (Core Specification 2.0, sections 2.4.7 and 5.4.6), by one
+//! table.
 
 ghost use Rattle.std.specs.Prelude.{◌≡◌, ◌≢◌, IfSome, IsNone};
 ghost use Rattle.wz_code.specs.declared.accesses.MemOp.{MemOp};
@@ -34,8 +35,9 @@ pub enum MemOp {
     I64Store32,
 }
 
-/// What an access reads or writes: the type of the value on the stack, and how many bytes of memory.
-/// A load of fewer bytes than the value has extends them with their sign where it is `signed`.
+/// What an access reads or writes: the type of the value on the stack, and how many bytes of
+/// memory. A load of fewer bytes than the value has extends them with their sign where it is
+/// `signed`.
 #[derive(Clone, Copy)]
 pub struct AccessShape {
     pub value: ValType,
@@ -44,8 +46,8 @@ pub struct AccessShape {
     pub store: bool,
 }
 
-// The table: the access, its opcode, the value's type, the bytes in memory, whether they are signed and
-// whether it is a store.
+// The table: the access, its opcode, the value's type, the bytes in memory, whether they are signed
+// and whether it is a store.
 macro_rules! accesses {
     ($expand:ident $arguments:tt) => {
         $expand! {
@@ -78,7 +80,9 @@ macro_rules! accesses {
 }
 
 macro_rules! shape_rows {
-    (($op:expr) $($name:ident: $byte:literal $value:ident $bytes:literal $signed:literal $store:literal;)*) => {
+    (($op:expr)
+        $($name:ident: $byte:literal
+            $value:ident $bytes:literal $signed:literal $store:literal;)*) => {
         match $op {
             $(MemOp::$name => AccessShape {
                 value: ValType::$value,
@@ -91,7 +95,9 @@ macro_rules! shape_rows {
 }
 
 macro_rules! access_rows {
-    (($opcode:expr) $($name:ident: $byte:literal $value:ident $bytes:literal $signed:literal $store:literal;)*) => {
+    (($opcode:expr)
+        $($name:ident: $byte:literal
+            $value:ident $bytes:literal $signed:literal $store:literal;)*) => {
         match $opcode {
             $($byte => Some(MemOp::$name),)*
             _ => None,

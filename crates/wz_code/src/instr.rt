@@ -4,8 +4,8 @@ use crate::accesses::MemOp;
 use crate::numeric::NumOp;
 use wz_types::{RefKind, ValType};
 
-/// What a block, a loop or an if takes and leaves: nothing and nothing, nothing and one value, or what
-/// the function type of this number says.
+/// What a block, a loop or an if takes and leaves: nothing and nothing, nothing and one value, or
+/// what the function type of this number says.
 #[derive(Clone, Copy, Debug, PartialEq, Eq)]
 pub enum Shape {
     Empty,

@@ -155,8 +155,8 @@ pub struct OpTypes {
     pub result: ValType,
 }
 
-// The table: the operation, its opcode with the number behind it, the types that it takes and the type
-// that it gives.
+// The table: the operation, its opcode with the number behind it, the types that it takes and the
+// type that it gives.
 macro_rules! numeric {
     ($expand:ident $arguments:tt) => {
         $expand! {
@@ -320,7 +320,9 @@ macro_rules! number {
 }
 
 macro_rules! signature_rows {
-    (($op:expr) $($name:ident: $byte:literal $($number:literal)?, $first:ident $($other:ident)? -> $result:ident;)*) => {
+    (($op:expr)
+        $($name:ident: $byte:literal $($number:literal)?,
+            $first:ident $($other:ident)? -> $result:ident;)*) => {
         match $op {
             $(NumOp::$name => OpTypes {
                 first: ValType::$first,
@@ -332,7 +334,9 @@ macro_rules! signature_rows {
 }
 
 macro_rules! opcode_rows {
-    (($op:expr) $($name:ident: $byte:literal $($number:literal)?, $first:ident $($other:ident)? -> $result:ident;)*) => {
+    (($op:expr)
+        $($name:ident: $byte:literal $($number:literal)?,
+            $first:ident $($other:ident)? -> $result:ident;)*) => {
         match $op {
             $(NumOp::$name => ($byte, number!($($number)?)),)*
         }
@@ -340,7 +344,9 @@ macro_rules! opcode_rows {
 }
 
 macro_rules! operation_rows {
-    (($opcode:expr) $($name:ident: $byte:literal $($number:literal)?, $first:ident $($other:ident)? -> $result:ident;)*) => {
+    (($opcode:expr)
+        $($name:ident: $byte:literal $($number:literal)?,
+            $first:ident $($other:ident)? -> $result:ident;)*) => {
         match $opcode {
             $(($byte, number!($($number)?)) => Some(NumOp::$name),)*
             _ => None,

@@ -1,7 +1,8 @@
 ghost use Rattle.std.specs.Prelude.{◌≡◌, ◌+◌, ◌≤◌, ℕ};
 
 use crate::accesses::{AccessShape, MemOp, access, access_from_opcode};
-use crate::body::{Body, BodyBuilder};
+use crate::body::Body;
+use crate::builder::BodyBuilder;
 use crate::instr::{Instr, Shape};
 use crate::numeric::{NumOp, OpTypes, from_opcode, opcode, signature};
 use crate::walk::{Walk, walk_body};
@@ -21,8 +22,14 @@ fn rows_of_the_tables(rt: HostRuntime) {
         (NumOp::I64TruncSatF64U, 0xFC, Some(7)),
     ];
     for (op, byte, second) in rows {
-        assert!(rt; opcode(op) == (byte, second));
-        assert!(rt; from_opcode(byte, second) == Some(op));
+        assert!(rt;
+            opcode(op) == (byte, second),
+            "opcode of row {byte:#x} {second:?}"
+        );
+        assert!(rt;
+            from_opcode(byte, second) == Some(op),
+            "row {byte:#x} {second:?} read"
+        );
     }
     let missing = [
         (0x44, None),
@@ -32,7 +39,10 @@ fn rows_of_the_tables(rt: HostRuntime) {
         (0x6A, Some(0)),
     ];
     for (byte, second) in missing {
-        assert!(rt; from_opcode(byte, second) == None);
+        assert!(rt;
+            from_opcode(byte, second) == None,
+            "no row {byte:#x} {second:?}"
+        );
     }
     let OpTypes {
         first,
@@ -57,8 +67,12 @@ fn rows_of_the_accesses(rt: HostRuntime) {
             signed,
             store,
         } = access(op);
-        assert!(rt; (value, bytes, signed, store) == (kind, count, extends, writes));
-        assert!(rt; access_from_opcode(byte) == Some(op));
+        let shape = (value, bytes, signed, store);
+        assert!(rt;
+            shape == (kind, count, extends, writes),
+            "shape of row {byte:#x}"
+        );
+        assert!(rt; access_from_opcode(byte) == Some(op), "row {byte:#x} read");
     }
     assert!(rt; access_from_opcode(0x27) == None);
     assert!(rt; access_from_opcode(0x3F) == None);
@@ -126,6 +140,7 @@ fn bodies_are_built_and_walked(rt: HostRuntime) -> Result<(), Fail> {
     assert!(rt; body.types() == [ValType::F32].as_slice());
     assert_eq!(rt; body.block_count(), 2);
     assert_eq!(rt; size_of::<Instr>(), 24);
+    assert_eq!(rt; size_of::<Body>(), 32);
     assert!(rt; matches!(body.block(1), Some([Instr::Br(0)])));
     assert!(rt; body.block(2).is_none());
     let mut all = Counter { seen: 0, limit: 9 };

@@ -23,15 +23,20 @@ pub trait Walk {
     ghost refuses: { BodyParts → Instr → Self.Meaning → Self.Fault → Type 0 };
 
     fn see(&mut self, body: &Body, instr: &Instr) -> Result<(), Self::Fault>
-        ensures seen { OnOk result (Self.meaning self.new ≡ Self.after body.now instr.now (Self.meaning self.old)) }
+        ensures seen { OnOk result
+            (Self.meaning self.new ≡ Self.after body.now instr.now (Self.meaning self.old)) }
         ensures kept { OnErr result (Self.meaning self.new ≡ Self.meaning self.old) }
-        ensures cause { IfErr result (λ fault. Self.refuses body.now instr.now (Self.meaning self.old) fault) };
+        ensures cause { IfErr result
+            (λ fault. Self.refuses body.now instr.now (Self.meaning self.old) fault) };
 }
 
 /// Shows the instructions of one block.
 fn walk_block<V: Walk>(body: &Body, number: u32, visitor: &mut V) -> Result<(), V::Fault>
-    ensures all { OnOk result (V.meaning visitor.new ≡ gathered (V.after body.now) (block_at body.now.blocks number) (V.meaning visitor.old)) }
-    ensures fault { IfErr result (StopsAt (V.after body.now) (V.refuses body.now) (block_at body.now.blocks number) (V.meaning visitor.old) (V.meaning visitor.new)) }
+    ensures all { let instrs = block_at body.now.blocks number in OnOk result
+        (V.meaning visitor.new ≡ gathered (V.after body.now) instrs (V.meaning visitor.old)) }
+    ensures fault { let instrs = block_at body.now.blocks number in IfErr result
+        (StopsAt (V.after body.now) (V.refuses body.now) instrs
+        (V.meaning visitor.old) (V.meaning visitor.new)) }
 {
     let Some(block) = body.block(number) else {
         return Ok(());
@@ -44,8 +49,11 @@ fn walk_block<V: Walk>(body: &Body, number: u32, visitor: &mut V) -> Result<(), 
 
 /// Shows each instruction of the body once, by block and then by place, up to the first fault.
 pub fn walk_body<V: Walk>(body: &Body, visitor: &mut V) -> Result<(), V::Fault>
-    ensures all { OnOk result (V.meaning visitor.new ≡ gathered (V.after body.now) (instrs_of body.now) (V.meaning visitor.old)) }
-    ensures fault { IfErr result (StopsAt (V.after body.now) (V.refuses body.now) (instrs_of body.now) (V.meaning visitor.old) (V.meaning visitor.new)) }
+    ensures all { let instrs = instrs_of body.now in OnOk result
+        (V.meaning visitor.new ≡ gathered (V.after body.now) instrs (V.meaning visitor.old)) }
+    ensures fault { let instrs = instrs_of body.now in IfErr result
+        (StopsAt (V.after body.now) (V.refuses body.now) instrs
+        (V.meaning visitor.old) (V.meaning visitor.new)) }
 {
     for number in 0..body.block_count() {
         walk_block(body, number, visitor)?;

@@ -9,20 +9,20 @@ use Rattle.wz_code.proofs.TreeLemmas.{joined_end, joined_assoc}
 use Rattle.wz_decode_code.specs.Types.{IsShape}
 use Rattle.wz_decode_code.specs.Code.{Behind, IsSecond, IsCode, IsExpression}
 use Rattle.wz_decode_code.specs.Tokens.{Symbol, Single, BeginsBlock, BeginsLoop, BeginsIf, Else, Ends, IsSymbol, symbol_at}
-use Rattle.wz_decode_code.specs.Reading.{Part, OfBlock, OfLoop, OfFirst, OfSecond, Around, node, Next, On, after, go_on, rest_at, reads, expression_at}
+use Rattle.wz_decode_code.specs.Reading.{BlockPart, OfBlock, OfLoop, OfFirst, OfSecond, Around, node, Next, On, after_symbol, go_on, rest_at, reads, expression_at}
 use Rattle.wz_decode_code.proofs.SymbolLaws.{symbol_exact}
 use Rattle.wz_decode_code.proofs.ReadsLemmas.{reads_step}
 
 -- ---- what is spelled so is read
 
 -- one token: what is read from here is what is read behind it
-symbol_on : (text rest : List ℕ) (t : Symbol) (here now : Code) (around outside : List Around) → IsSymbol text t → after t here around ≡ On now outside → reads (text ++ rest) here around ≡ reads rest now outside
+symbol_on : (text rest : List ℕ) (t : Symbol) (here now : Code) (around outside : List Around) → IsSymbol text t → after_symbol t here around ≡ On now outside → reads (text ++ rest) here around ≡ reads rest now outside
 symbol_on text rest t here now around outside h e =
     reads_step (text ++ rest) t rest here around (symbol_exact.again text t rest h)
     ∙ ap (λ (n : Next). go_on (λ h a. reads rest h a) rest n) e
 
 -- a block whose opcode and shape have been read: its instructions, its end, and what follows it
-held_again : (part : Part) (shape : Shape) (inner more : Code) (text behind rest : List ℕ) (here : Code) (outside : List Around) → IsCode text inner → IsCode behind more
+held_again : (part : BlockPart) (shape : Shape) (inner more : Code) (text behind rest : List ℕ) (here : Code) (outside : List Around) → IsCode text inner → IsCode behind more
     → ((t rest : List ℕ) (here : Code) (outside : List Around) → IsCode t inner → reads (t ++ rest) here outside ≡ reads rest (joined here inner) outside)
     → ((t rest : List ℕ) (here : Code) (outside : List Around) → IsCode t more → reads (t ++ rest) here outside ≡ reads rest (joined here more) outside)
     → reads (text ++ (0x0B ∷ (behind ++ rest))) End (record { part = part; shape = shape; before = here } ∷ outside) ≡ reads rest (joined here (joined (node part shape inner) more)) outside
@@ -121,7 +121,7 @@ code_append (InIf s one two more) y a b h k = (
 )
 
 -- the bytes from a block's opcode up to its instructions
-abbrev IsHead : Part → Shape → List ℕ → Type 0
+abbrev IsHead : BlockPart → Shape → List ℕ → Type 0
 IsHead OfBlock shape head = Behind 0x02 (λ t. IsShape t shape) head
 IsHead OfLoop shape head = Behind 0x03 (λ t. IsShape t shape) head
 IsHead OfFirst shape head = Behind 0x04 (λ t. IsShape t shape) head
@@ -140,7 +140,7 @@ extend bytes (o ∷ outside) here code text left h k =
     (h.0, h.1 ++ text, h.2, code_append here code h.1 text h.3 k, subst (λ (t : List ℕ). Spelled bytes outside o.before t) parts h.4)
 
 -- a block that ends is spelled
-node_spelled : (part : Part) (shape : Shape) (inner : Code) (head text : List ℕ) → IsHead part shape head → IsCode text inner → IsCode (head ++ (text ++ 0x0B ∷ [])) (node part shape inner)
+node_spelled : (part : BlockPart) (shape : Shape) (inner : Code) (head text : List ℕ) → IsHead part shape head → IsCode text inner → IsCode (head ++ (text ++ 0x0B ∷ [])) (node part shape inner)
 node_spelled OfBlock shape inner head text h k = (h.0 ++ (text ++ 0x0B ∷ []), ap (λ (t : List ℕ). t ++ (text ++ 0x0B ∷ [])) h.1, (h.0, text, [], refl, h.2, k, refl))
 node_spelled OfLoop shape inner head text h k = (h.0 ++ (text ++ 0x0B ∷ []), ap (λ (t : List ℕ). t ++ (text ++ 0x0B ∷ [])) h.1, (h.0, text, [], refl, h.2, k, refl))
 node_spelled OfFirst shape inner head text h k =
@@ -156,7 +156,7 @@ node_spelled (OfSecond one) shape inner head text h k =
       (h.0, arms, [], refl, h.3, (h.1, 0x05 ∷ text, refl, h.4, inr (text, refl, k)), refl),
     )
 
-begun : (bytes : List ℕ) (outside : List Around) (here : Code) (part : Part) (shape : Shape) (head left rest : List ℕ) → left ≡ head ++ rest → IsHead part shape head → Spelled bytes outside here left
+begun : (bytes : List ℕ) (outside : List Around) (here : Code) (part : BlockPart) (shape : Shape) (head left rest : List ℕ) → left ≡ head ++ rest → IsHead part shape head → Spelled bytes outside here left
     → Spelled bytes (record { part = part; shape = shape; before = here } ∷ outside) End rest
 begun bytes outside here part shape head left rest parts is h = (head, [], is, refl, subst (λ (t : List ℕ). Spelled bytes outside here t) parts h)
 
@@ -164,9 +164,9 @@ begun bytes outside here part shape head left rest parts is h = (head, [], is, r
 abbrev Sound : ℕ → Type 0
 Sound fuel = (bytes left : List ℕ) (here : Code) (outside : List Around) (c : Code) (r : List ℕ) → rest_at fuel left here outside ≡ Some (c, r) → Spelled bytes outside here left → Front IsExpression bytes c r
 
-on_else : (fuel : ℕ) → Sound fuel → (bytes left rest : List ℕ) (here : Code) (part : Part) (shape : Shape) (before : Code) (outside : List Around) (c : Code) (r : List ℕ) → left ≡ 0x05 ∷ rest
+on_else : (fuel : ℕ) → Sound fuel → (bytes left rest : List ℕ) (here : Code) (part : BlockPart) (shape : Shape) (before : Code) (outside : List Around) (c : Code) (r : List ℕ) → left ≡ 0x05 ∷ rest
     → Spelled bytes (record { part = part; shape = shape; before = before } ∷ outside) here left
-    → go_on (λ h a. rest_at fuel rest h a) rest (after Else here (record { part = part; shape = shape; before = before } ∷ outside)) ≡ Some (c, r) → Front IsExpression bytes c r
+    → go_on (λ h a. rest_at fuel rest h a) rest (after_symbol Else here (record { part = part; shape = shape; before = before } ∷ outside)) ≡ Some (c, r) → Front IsExpression bytes c r
 on_else fuel sound bytes left rest here OfBlock shape before outside c r parts h e = absurd cc
 on_else fuel sound bytes left rest here OfLoop shape before outside c r parts h e = absurd cc
 on_else fuel sound bytes left rest here (OfSecond one) shape before outside c r parts h e = absurd cc
@@ -181,7 +181,7 @@ on_else fuel sound bytes left rest here OfFirst shape before outside c r parts h
     (head ++ (text ++ 0x05 ∷ []), [], (kind, text, is, h.2.2, h.3), refl, subst (λ (t : List ℕ). Spelled bytes outside before t) whole h.4)
 
 on_symbol : (fuel : ℕ) → Sound fuel → (bytes left text rest : List ℕ) (t : Symbol) (here : Code) (outside : List Around) (c : Code) (r : List ℕ) → left ≡ text ++ rest → IsSymbol text t → Spelled bytes outside here left
-    → go_on (λ h a. rest_at fuel rest h a) rest (after t here outside) ≡ Some (c, r) → Front IsExpression bytes c r
+    → go_on (λ h a. rest_at fuel rest h a) rest (after_symbol t here outside) ≡ Some (c, r) → Front IsExpression bytes c r
 on_symbol fuel sound bytes left text rest (Single i) here outside c r parts is h e =
     sound bytes rest (joined here (Then i End)) outside c r e
     (extend bytes outside here (Then i End) text rest (subst (λ (t : List ℕ). Spelled bytes outside here t) parts h) (text, [], sym (append-nil text), is, refl))

@@ -33,9 +33,9 @@ run_below bytes run rest e = let f = run_exact.found bytes run rest e in unsigne
 
 -- ---- how many there are
 
-count-append : (xs ys : List Run) → count_of (xs ++ ys) ≡ count_of xs + count_of ys
-count-append [] ys = omega arith
-count-append (x ∷ xs) ys = omega (arith, count-append xs ys)
+count_append : (xs ys : List Run) → count_of (xs ++ ys) ≡ count_of xs + count_of ys
+count_append [] ys = omega arith
+count_append (x ∷ xs) ys = omega (arith, count_append xs ys)
 
 -- those that were added
 behind : (old new : BodyParts) (items : List Run) → new ≡ with_runs old items → drop (length old.locals) new.locals ≡ items
@@ -50,7 +50,7 @@ counts_start body = none body.locals where
 pub counts_more : (old mid new : BodyParts) (items : List Run) (x : Run) (total : ℕ) → mid ≡ with_runs old items → new ≡ with_locals mid x.0 x.1 → new ≡ with_runs old (items ++ x ∷ []) → total ≡ count_of (drop (length old.locals) mid.locals)
     → total + x.0 ≡ count_of (drop (length old.locals) new.locals)
 counts_more old mid new items x total was is grown so_far =
-    omega (arith, so_far, ap (λ (l : List Run). count_of l) (behind old mid items was), ap (λ (l : List Run). count_of l) (behind old new (items ++ x ∷ []) grown), count-append items (x ∷ []))
+    omega (arith, so_far, ap (λ (l : List Run). count_of l) (behind old mid items was), ap (λ (l : List Run). count_of l) (behind old new (items ++ x ∷ []) grown), count_append items (x ∷ []))
 
 -- ---- all of them
 

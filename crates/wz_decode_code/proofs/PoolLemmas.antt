@@ -16,13 +16,13 @@ use Rattle.wz_decode_code.specs.declared.token.Token.TheVariants as token
 use Rattle.wz_decode_code.specs.Types.{type_at}
 use Rattle.wz_decode_code.specs.InstrReading.{u32_at}
 use Rattle.wz_decode_code.specs.Tokens.{Symbol, Single, seen, IsSimple, HasSimple, token_at, symbol_at}
-use Rattle.wz_decode_code.specs.Opened.{seen_in, NamesNone, Fits}
-use Rattle.wz_decode_code.specs.Pools.{with_labels, with_types, Added, Stand, Grown, SymbolRead}
+use Rattle.wz_decode_code.specs.Opened.{seen_in, NamesNone, TokenFits}
+use Rattle.wz_decode_code.specs.Pools.{with_labels, with_types, Added, Stand, PoolsGrown, SymbolRead}
 use Rattle.wz_decode_code.proofs.SymbolLaws.{read_simple, token_symbol, symbol_shorter}
 use Rattle.wz_decode_code.proofs.ItemLemmas.{u32_shorter}
 
 -- where the pools grow each tree stays
-pub grown_stays : (old new : BodyParts) (held : List ℕ) → IsBuilding old held → Grown old new → StaysBuilding old new held
+pub grown_stays : (old new : BodyParts) (held : List ℕ) → IsBuilding old held → PoolsGrown old new → StaysBuilding old new held
 grown_stays old new held building g =
     subst (λ (b : BodyParts). StaysBuilding old b held) (sym g.is) (record {
       building = record {
@@ -34,7 +34,7 @@ grown_stays old new held building g =
           (λ m. every-of (λ i. InPools old.labels old.types i) (λ i. leaf_of old.labels old.types i ≡ leaf_of (old.labels ++ g.labels) (old.types ++ g.types) i) (λ i h. leaf-more old.labels g.labels old.types g.types i h) (block_at old.blocks m) (building.pools.each m)) n);
     })
 
-pub grown_locals : (old new : BodyParts) → Grown old new → new.locals ≡ old.locals
+pub grown_locals : (old new : BodyParts) → PoolsGrown old new → new.locals ≡ old.locals
 grown_locals old new g = ap (λ (b : BodyParts). b.locals) g.is
 
 -- ---- a br_table
@@ -120,7 +120,7 @@ simple_fits body (BrTable f c l) h = absurd h
 simple_fits body (SelectTyped f c) h = absurd h
 simple_fits body i h = (tt, tt, refl)
 
-token_fits : (body : BodyParts) (t : Token) → HasSimple t → Fits body t × (seen (λ i. Plain i) t ≡ seen_in body t)
+token_fits : (body : BodyParts) (t : Token) → HasSimple t → TokenFits body t × (seen (λ i. Plain i) t ≡ seen_in body t)
 token_fits body (token.Plain i) h = let f = simple_fits body i h in ((f.0, f.1), ap (λ (l : Leaf). Single l) (sym f.2))
 token_fits body (token.Block s) h = (tt, refl)
 token_fits body (token.Loop s) h = (tt, refl)

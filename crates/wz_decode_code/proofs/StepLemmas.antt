@@ -16,47 +16,47 @@ use Rattle.wz_decode_code.specs.declared.token.Token.TheVariants as token
 use Rattle.wz_decode_code.specs.declared.blocks.Kind.{Kind}
 use Rattle.wz_decode_code.specs.declared.blocks.Kind.TheVariants as kind
 use Rattle.wz_decode_code.specs.declared.blocks.Open.{Open}
-use Rattle.wz_decode_code.specs.Reading.{Part, OfSecond, Around, node, On, after}
-use Rattle.wz_decode_code.specs.Opened.{part_of, around_of, arounds, pending, others, held, Rises, IsReading, node_of, seen_in, NamesNone, Fits}
+use Rattle.wz_decode_code.specs.Reading.{BlockPart, OfSecond, Around, node, On, after_symbol}
+use Rattle.wz_decode_code.specs.Opened.{part_of, around_of, arounds, first_arm_of, unnamed_around, unnamed_blocks, ParentsRise, IsReading, node_of, seen_in, NamesNone, TokenFits}
 
 -- ---- what is around stays
 
-part-same : (A B : BodyParts) (b : ℕ) → ((n : ℕ) → n ≢ b → tree_of A n ≡ tree_of B n) → (k : Kind) (rest : List ℕ) → Every (λ n. n ≢ b) (pending k ++ rest)
+part_same : (A B : BodyParts) (b : ℕ) → ((n : ℕ) → n ≢ b → tree_of A n ≡ tree_of B n) → (k : Kind) (rest : List ℕ) → Every (λ n. n ≢ b) (first_arm_of k ++ rest)
     → (part_of A k ≡ part_of B k) × Every (λ n. n ≢ b) rest
-part-same A B b agree kind.Block rest h = (refl, h)
-part-same A B b agree kind.Loop rest h = (refl, h)
-part-same A B b agree kind.First rest h = (refl, h)
-part-same A B b agree (kind.Second first) rest h = (ap (λ (c : Code). OfSecond c) (agree first h.0), h.1)
+part_same A B b agree kind.Block rest h = (refl, h)
+part_same A B b agree kind.Loop rest h = (refl, h)
+part_same A B b agree kind.First rest h = (refl, h)
+part_same A B b agree (kind.Second first) rest h = (ap (λ (c : Code). OfSecond c) (agree first h.0), h.1)
 
-around-is : (p q : Part) (s : Shape) (c d : Code) → p ≡ q → c ≡ d → (let x : Around = record { part = p; shape = s; before = c } in x) ≡ record { part = q; shape = s; before = d }
-around-is p q s c d e f = rw (e, f) refl
+around_is : (p q : BlockPart) (s : Shape) (c d : Code) → p ≡ q → c ≡ d → (let x : Around = record { part = p; shape = s; before = c } in x) ≡ record { part = q; shape = s; before = d }
+around_is p q s c d e f = rw (e, f) refl
 
-arounds-same : (A B : BodyParts) (b : ℕ) → ((n : ℕ) → n ≢ b → tree_of A n ≡ tree_of B n) → (opens : List Open) → Every (λ n. n ≢ b) (others opens) → arounds A opens ≡ arounds B opens
-arounds-same A B b agree [] h = refl
-arounds-same A B b agree (o ∷ opens) h =
-    let p = part-same A B b agree o.kind (o.parent ∷ others opens) h in
-    let first : around_of A o ≡ around_of B o = around-is (part_of A o.kind) (part_of B o.kind) o.shape (tree_of A o.parent) (tree_of B o.parent) p.0 (agree o.parent p.1.0) in
-    cc (first, arounds-same A B b agree opens p.1.1)
+arounds_same : (A B : BodyParts) (b : ℕ) → ((n : ℕ) → n ≢ b → tree_of A n ≡ tree_of B n) → (opens : List Open) → Every (λ n. n ≢ b) (unnamed_around opens) → arounds A opens ≡ arounds B opens
+arounds_same A B b agree [] h = refl
+arounds_same A B b agree (o ∷ opens) h =
+    let p = part_same A B b agree o.kind (o.parent ∷ unnamed_around opens) h in
+    let first : around_of A o ≡ around_of B o = around_is (part_of A o.kind) (part_of B o.kind) o.shape (tree_of A o.parent) (tree_of B o.parent) p.0 (agree o.parent p.1.0) in
+    cc (first, arounds_same A B b agree opens p.1.1)
 
-part-all : (A B : BodyParts) → ((n : ℕ) → tree_of A n ≡ tree_of B n) → (k : Kind) → part_of A k ≡ part_of B k
-part-all A B agree kind.Block = refl
-part-all A B agree kind.Loop = refl
-part-all A B agree kind.First = refl
-part-all A B agree (kind.Second first) = ap (λ (c : Code). OfSecond c) (agree first)
+part_all : (A B : BodyParts) → ((n : ℕ) → tree_of A n ≡ tree_of B n) → (k : Kind) → part_of A k ≡ part_of B k
+part_all A B agree kind.Block = refl
+part_all A B agree kind.Loop = refl
+part_all A B agree kind.First = refl
+part_all A B agree (kind.Second first) = ap (λ (c : Code). OfSecond c) (agree first)
 
-pub arounds-all : (A B : BodyParts) → ((n : ℕ) → tree_of A n ≡ tree_of B n) → (opens : List Open) → arounds A opens ≡ arounds B opens
-arounds-all A B agree [] = refl
-arounds-all A B agree (o ∷ opens) =
-    let first : around_of A o ≡ around_of B o = around-is (part_of A o.kind) (part_of B o.kind) o.shape (tree_of A o.parent) (tree_of B o.parent) (part-all A B agree o.kind) (agree o.parent) in
-    cc (first, arounds-all A B agree opens)
+pub arounds_all : (A B : BodyParts) → ((n : ℕ) → tree_of A n ≡ tree_of B n) → (opens : List Open) → arounds A opens ≡ arounds B opens
+arounds_all A B agree [] = refl
+arounds_all A B agree (o ∷ opens) =
+    let first : around_of A o ≡ around_of B o = around_is (part_of A o.kind) (part_of B o.kind) o.shape (tree_of A o.parent) (tree_of B o.parent) (part_all A B agree o.kind) (agree o.parent) in
+    cc (first, arounds_all A B agree opens)
 
 -- ---- a plain instruction
 
-here_held : (here : ℕ) (opens : List Open) → 1 ≤ times here (held here opens)
-here_held here opens = omega (arith, times-here here (others opens))
+here_held : (here : ℕ) (opens : List Open) → 1 ≤ times here (unnamed_blocks here opens)
+here_held here opens = omega (arith, times-here here (unnamed_around opens))
 
 pub here_within : (body : BodyParts) (here : ℕ) (opens : List Open) → IsReading body here opens → here < length body.blocks
-here_within body here opens reading = (held_is_there body (held here opens) here reading.building (here_held here opens)).0
+here_within body here opens reading = (held_is_there body (unnamed_blocks here opens) here reading.building (here_held here opens)).0
 
 none_named : (instr : Instr) → NamesNone instr → named instr ≡ []
 none_named (Block shape body) h = absurd h
@@ -76,102 +76,102 @@ pub record Holds (body : BodyParts) (here : ℕ) (opens : List Open) (c : Code) 
   pub code : tree_of body here ≡ c
   pub around : arounds body opens ≡ outside
 
-plain-holds : (body : BodyParts) (here : ℕ) (opens : List Open) (instr : Instr) → IsReading body here opens → NamesNone instr → InPools body.labels body.types instr
+plain_holds : (body : BodyParts) (here : ℕ) (opens : List Open) (instr : Instr) → IsReading body here opens → NamesNone instr → InPools body.labels body.types instr
     → Holds (with_instr body here instr) here opens (joined (tree_of body here) (Then (leaf_in body instr) End)) (arounds body opens)
-plain-holds body here opens instr reading none pools =
+plain_holds body here opens instr reading none pools =
     let e = none_named instr none in
-    let there = held_is_there body (held here opens) here reading.building (here_held here opens) in
-    let away : Every (λ n. n ≢ here) (others opens) = not-times here (others opens) (omega (arith, times-here here (others opens), there.1)) in
-    let taken : InstrTaken body here instr (held here opens) = taking_instr body (held here opens) here instr (held here opens) reading.building
+    let there = held_is_there body (unnamed_blocks here opens) here reading.building (here_held here opens) in
+    let away : Every (λ n. n ≢ here) (unnamed_around opens) = not-times here (unnamed_around opens) (omega (arith, times-here here (unnamed_around opens), there.1)) in
+    let taken : InstrTaken body here instr (unnamed_blocks here opens) = taking_instr body (unnamed_blocks here opens) here instr (unnamed_blocks here opens) reading.building
     (record { held = here_held here opens; rises = rw e tt; pools = pools; moved = λ k. rw e (omega arith) }) in
     record {
       reading = record { building = taken.building; rises = reading.rises };
       code = taken.here ∙ ap (λ (c : Code). joined (tree_of body here) c) (none_headed body instr none);
-      around = arounds-same (with_instr body here instr) body here (λ n h. taken.elsewhere n h) opens away;
+      around = arounds_same (with_instr body here instr) body here (λ n h. taken.elsewhere n h) opens away;
     }
 
 -- ---- a block begins
 
-opened-holds : (body : BodyParts) (here : ℕ) (opens : List Open) (o : Open) → IsReading body here opens → o.parent ≡ here → pending o.kind ≡ []
+opened_holds : (body : BodyParts) (here : ℕ) (opens : List Open) (o : Open) → IsReading body here opens → o.parent ≡ here → first_arm_of o.kind ≡ []
     → Holds (with_block body) (length body.blocks) (o ∷ opens) End (record { part = part_of body o.kind; shape = o.shape; before = tree_of body here } ∷ arounds body opens)
-opened-holds body here opens o reading parent none =
+opened_holds body here opens o reading parent none =
     let within = here_within body here opens reading in
     let below : o.parent < length body.blocks = rw parent within in
-    let rising : Rises o.parent opens = rw parent reading.rises in
-    let taken : BlockTaken body (held (length body.blocks) (o ∷ opens)) = taking_block body (held here opens) (held (length body.blocks) (o ∷ opens)) reading.building (λ k. rw (none, parent) refl) in
+    let rising : ParentsRise o.parent opens = rw parent reading.rises in
+    let taken : BlockTaken body (unnamed_blocks (length body.blocks) (o ∷ opens)) = taking_block body (unnamed_blocks here opens) (unnamed_blocks (length body.blocks) (o ∷ opens)) reading.building (λ k. rw (none, parent) refl) in
     record {
       reading = record { building = taken.building; rises = (below, rw none tt, rising) };
       code = taken.here;
-      around = arounds-all (with_block body) body (λ n. taken.elsewhere n) (o ∷ opens) ∙ ap (λ (n : ℕ). record { part = part_of body o.kind; shape = o.shape; before = tree_of body n } ∷ arounds body opens) parent;
+      around = arounds_all (with_block body) body (λ n. taken.elsewhere n) (o ∷ opens) ∙ ap (λ (n : ℕ). record { part = part_of body o.kind; shape = o.shape; before = tree_of body n } ∷ arounds body opens) parent;
     }
 
 -- the second arm of an if begins
-second-holds : (body : BodyParts) (here : ℕ) (opens : List Open) (o now : Open) → IsReading body here (o ∷ opens) → o.kind ≡ kind.First → now.kind ≡ kind.Second here → now.shape ≡ o.shape → now.parent ≡ o.parent
+second_holds : (body : BodyParts) (here : ℕ) (opens : List Open) (o now : Open) → IsReading body here (o ∷ opens) → o.kind ≡ kind.First → now.kind ≡ kind.Second here → now.shape ≡ o.shape → now.parent ≡ o.parent
     → Holds (with_block body) (length body.blocks) (now ∷ opens) End (record { part = OfSecond (tree_of body here); shape = o.shape; before = tree_of body o.parent } ∷ arounds body opens)
-second-holds body here opens o now reading was is shape parent =
+second_holds body here opens o now reading was is shape parent =
     let within = here_within body here (o ∷ opens) reading in
     let behind = reading.rises.0 in
     let below : now.parent < length body.blocks = rw parent (omega arith) in
-    let rising : Rises now.parent opens = rw parent reading.rises.2 in
-    let before : held here (o ∷ opens) ≡ here ∷ o.parent ∷ others opens = rw was refl in
-    let now_held : held (length body.blocks) (now ∷ opens) ≡ length body.blocks ∷ here ∷ o.parent ∷ others opens = rw (is, parent) refl in
-    let taken : BlockTaken body (held (length body.blocks) (now ∷ opens)) = taking_block body (held here (o ∷ opens)) (held (length body.blocks) (now ∷ opens)) reading.building
+    let rising : ParentsRise now.parent opens = rw parent reading.rises.2 in
+    let before : unnamed_blocks here (o ∷ opens) ≡ here ∷ o.parent ∷ unnamed_around opens = rw was refl in
+    let now_held : unnamed_blocks (length body.blocks) (now ∷ opens) ≡ length body.blocks ∷ here ∷ o.parent ∷ unnamed_around opens = rw (is, parent) refl in
+    let taken : BlockTaken body (unnamed_blocks (length body.blocks) (now ∷ opens)) = taking_block body (unnamed_blocks here (o ∷ opens)) (unnamed_blocks (length body.blocks) (now ∷ opens)) reading.building
     (λ k. ap (λ (h : List ℕ). times k h) now_held ∙ ap (λ (h : List ℕ). times k (length body.blocks ∷ h)) (sym before)) in
     record {
       reading = record { building = taken.building; rises = (below, rw (is, parent) (behind, tt), rising) };
       code = taken.here;
-      around = arounds-all (with_block body) body (λ n. taken.elsewhere n) (now ∷ opens) ∙ rw (is, shape, parent) refl;
+      around = arounds_all (with_block body) body (λ n. taken.elsewhere n) (now ∷ opens) ∙ rw (is, shape, parent) refl;
     }
 
 -- ---- a block ends
 
-node-headed : (body : BodyParts) (k : Kind) (shape : Shape) (here : ℕ) → headed_in body (node_of k shape here) End ≡ node (part_of body k) shape (tree_of body here)
-node-headed body kind.Block shape here = refl
-node-headed body kind.Loop shape here = refl
-node-headed body kind.First shape here = refl
-node-headed body (kind.Second first) shape here = refl
+node_headed : (body : BodyParts) (k : Kind) (shape : Shape) (here : ℕ) → headed_in body (node_of k shape here) End ≡ node (part_of body k) shape (tree_of body here)
+node_headed body kind.Block shape here = refl
+node_headed body kind.Loop shape here = refl
+node_headed body kind.First shape here = refl
+node_headed body (kind.Second first) shape here = refl
 
-node-names : (P : ℕ → Type 0) (k : Kind) (shape : Shape) (here : ℕ) → P here → Every P (pending k) → Every P (named (node_of k shape here))
-node-names P kind.Block shape here h ps = (h, tt)
-node-names P kind.Loop shape here h ps = (h, tt)
-node-names P kind.First shape here h ps = (h, tt)
-node-names P (kind.Second first) shape here h ps = (ps.0, (h, tt))
+node_names : (P : ℕ → Type 0) (k : Kind) (shape : Shape) (here : ℕ) → P here → Every P (first_arm_of k) → Every P (named (node_of k shape here))
+node_names P kind.Block shape here h ps = (h, tt)
+node_names P kind.Loop shape here h ps = (h, tt)
+node_names P kind.First shape here h ps = (h, tt)
+node_names P (kind.Second first) shape here h ps = (ps.0, (h, tt))
 
-node-moves : (k : Kind) (shape : Shape) (here n : ℕ) (rest : List ℕ) → times n (named (node_of k shape here)) + times n rest ≡ times n (here ∷ (pending k ++ rest))
-node-moves kind.Block shape here n rest = omega arith
-node-moves kind.Loop shape here n rest = omega arith
-node-moves kind.First shape here n rest = omega arith
-node-moves (kind.Second first) shape here n rest = omega arith
+node_moves : (k : Kind) (shape : Shape) (here n : ℕ) (rest : List ℕ) → times n (named (node_of k shape here)) + times n rest ≡ times n (here ∷ (first_arm_of k ++ rest))
+node_moves kind.Block shape here n rest = omega arith
+node_moves kind.Loop shape here n rest = omega arith
+node_moves kind.First shape here n rest = omega arith
+node_moves (kind.Second first) shape here n rest = omega arith
 
-node-pools : (labels : List ℕ) (types : List _) (k : Kind) (shape : Shape) (here : ℕ) → InPools labels types (node_of k shape here)
-node-pools labels types kind.Block shape here = tt
-node-pools labels types kind.Loop shape here = tt
-node-pools labels types kind.First shape here = tt
-node-pools labels types (kind.Second first) shape here = tt
+node_pools : (labels : List ℕ) (types : List _) (k : Kind) (shape : Shape) (here : ℕ) → InPools labels types (node_of k shape here)
+node_pools labels types kind.Block shape here = tt
+node_pools labels types kind.Loop shape here = tt
+node_pools labels types kind.First shape here = tt
+node_pools labels types (kind.Second first) shape here = tt
 
-parent_held : (here : ℕ) (opens : List Open) (o : Open) → 1 ≤ times o.parent (held here (o ∷ opens))
-parent_held here opens o = omega (arith, times-append o.parent (pending o.kind) (o.parent ∷ others opens), times-here o.parent (others opens))
+parent_held : (here : ℕ) (opens : List Open) (o : Open) → 1 ≤ times o.parent (unnamed_blocks here (o ∷ opens))
+parent_held here opens o = omega (arith, times-append o.parent (first_arm_of o.kind) (o.parent ∷ unnamed_around opens), times-here o.parent (unnamed_around opens))
 
 parent_within : (body : BodyParts) (here : ℕ) (opens : List Open) (o : Open) → IsReading body here (o ∷ opens) → o.parent < length body.blocks
-parent_within body here opens o reading = (held_is_there body (held here (o ∷ opens)) o.parent reading.building (parent_held here opens o)).0
+parent_within body here opens o reading = (held_is_there body (unnamed_blocks here (o ∷ opens)) o.parent reading.building (parent_held here opens o)).0
 
-closed-holds : (body : BodyParts) (here : ℕ) (opens : List Open) (o : Open) → IsReading body here (o ∷ opens)
+closed_holds : (body : BodyParts) (here : ℕ) (opens : List Open) (o : Open) → IsReading body here (o ∷ opens)
     → Holds (with_instr body o.parent (node_of o.kind o.shape here)) o.parent opens (joined (tree_of body o.parent) (node (part_of body o.kind) o.shape (tree_of body here))) (arounds body opens)
-closed-holds body here opens o reading =
+closed_holds body here opens o reading =
     let b = o.parent in
     let instr = node_of o.kind o.shape here in
-    let there = held_is_there body (held here (o ∷ opens)) b reading.building (parent_held here opens o) in
-    let away : Every (λ n. n ≢ b) (others opens) = not-times b (others opens) (omega (arith, times-append b (pending o.kind) (b ∷ others opens), times-here b (others opens), there.1)) in
-    let taken : InstrTaken body b instr (held b opens) = taking_instr body (held here (o ∷ opens)) b instr (held b opens) reading.building (record {
+    let there = held_is_there body (unnamed_blocks here (o ∷ opens)) b reading.building (parent_held here opens o) in
+    let away : Every (λ n. n ≢ b) (unnamed_around opens) = not-times b (unnamed_around opens) (omega (arith, times-append b (first_arm_of o.kind) (b ∷ unnamed_around opens), times-here b (unnamed_around opens), there.1)) in
+    let taken : InstrTaken body b instr (unnamed_blocks b opens) = taking_instr body (unnamed_blocks here (o ∷ opens)) b instr (unnamed_blocks b opens) reading.building (record {
       held = parent_held here opens o;
-      rises = node-names (λ k. b < k) o.kind o.shape here reading.rises.0 reading.rises.1;
-      pools = node-pools body.labels body.types o.kind o.shape here;
-      moved = λ k. node-moves o.kind o.shape here k (b ∷ others opens);
+      rises = node_names (λ k. b < k) o.kind o.shape here reading.rises.0 reading.rises.1;
+      pools = node_pools body.labels body.types o.kind o.shape here;
+      moved = λ k. node_moves o.kind o.shape here k (b ∷ unnamed_around opens);
     }) in
     record {
       reading = record { building = taken.building; rises = reading.rises.2 };
-      code = taken.here ∙ ap (λ (c : Code). joined (tree_of body b) c) (node-headed body o.kind o.shape here);
-      around = arounds-same (with_instr body b instr) body b (λ n h. taken.elsewhere n h) opens away;
+      code = taken.here ∙ ap (λ (c : Code). joined (tree_of body b) c) (node_headed body o.kind o.shape here);
+      around = arounds_same (with_instr body b instr) body b (λ n h. taken.elsewhere n h) opens away;
     }
 
 -- the expression as a whole
@@ -180,60 +180,60 @@ whole body here reading = (reading.rises, subst (λ (n : ℕ). IsReading body n 
 
 -- ---- the steps as the code makes them: open blocks stand in a vector, the innermost last
 
-reverse-push : (xs : List Open) (o : Open) → reverse (xs ++ o ∷ []) ≡ o ∷ reverse xs
-reverse-push xs o = reverse-append xs (o ∷ [])
+reverse_push : (xs : List Open) (o : Open) → reverse (xs ++ o ∷ []) ≡ o ∷ reverse xs
+reverse_push xs o = reverse-append xs (o ∷ [])
 
 abbrev Goal : Token → BodyParts → ℕ → List Open → BodyParts → ℕ → List Open → Type 0
-Goal t old was before new here opens = IsReading new here opens × (after (seen_in old t) (tree_of old was) (arounds old before) ≡ On (tree_of new here) (arounds new opens))
+Goal t old was before new here opens = IsReading new here opens × (after_symbol (seen_in old t) (tree_of old was) (arounds old before) ≡ On (tree_of new here) (arounds new opens))
 
 follow : (t : Token) (old : BodyParts) (was : ℕ) (before : List Open) (new : BodyParts) (here : ℕ) (opens : List Open) (c : Code) (outside : List Around)
-    → Holds new here opens c outside → after (seen_in old t) (tree_of old was) (arounds old before) ≡ On c outside → Goal t old was before new here opens
+    → Holds new here opens c outside → after_symbol (seen_in old t) (tree_of old was) (arounds old before) ≡ On c outside → Goal t old was before new here opens
 follow t old was before new here opens c outside holds e = (holds.reading, e ∙ rw (holds.code, holds.around) refl)
 
-pub plain-follows : (old new : BodyParts) (here : ℕ) (opens : List Open) (t : Token) (instr : Instr) → IsReading old here opens → Fits old t → t ≡ token.Plain instr → new ≡ with_instr old here instr
+pub plain_follows : (old new : BodyParts) (here : ℕ) (opens : List Open) (t : Token) (instr : Instr) → IsReading old here opens → TokenFits old t → t ≡ token.Plain instr → new ≡ with_instr old here instr
     → Goal t old here opens new here opens
-plain-follows old new here opens t instr reading fits is grown =
+plain_follows old new here opens t instr reading fits is grown =
     let fit = rw is at fits in
-    let holds = plain-holds old here opens instr reading fit.0 fit.1 in
+    let holds = plain_holds old here opens instr reading fit.0 fit.1 in
     subst (λ (n : BodyParts). Goal t old here opens n here opens) (sym grown)
     (follow t old here opens (with_instr old here instr) here opens (joined (tree_of old here) (Then (leaf_in old instr) End)) (arounds old opens) holds (rw is refl))
 
-pub begin-follows : (old new : BodyParts) (here inner : ℕ) (xs ys : List Open) (o : Open) (t : Token) → IsReading old here (reverse xs) → o.parent ≡ here → pending o.kind ≡ []
-    → inner ≡ length old.blocks → new ≡ with_block old → ys ≡ xs ++ o ∷ [] → after (seen_in old t) (tree_of old here) (arounds old (reverse xs)) ≡ On End (record { part = part_of old o.kind; shape = o.shape; before = tree_of old here } ∷ arounds old (reverse xs))
+pub begin_follows : (old new : BodyParts) (here inner : ℕ) (xs ys : List Open) (o : Open) (t : Token) → IsReading old here (reverse xs) → o.parent ≡ here → first_arm_of o.kind ≡ []
+    → inner ≡ length old.blocks → new ≡ with_block old → ys ≡ xs ++ o ∷ [] → after_symbol (seen_in old t) (tree_of old here) (arounds old (reverse xs)) ≡ On End (record { part = part_of old o.kind; shape = o.shape; before = tree_of old here } ∷ arounds old (reverse xs))
     → Goal t old here (reverse xs) new inner (reverse ys)
-begin-follows old new here inner xs ys o t reading parent none number grown pushed e =
-    let holds = opened-holds old here (reverse xs) o reading parent none in
-    rw (number, grown, pushed, reverse-push xs o)
+begin_follows old new here inner xs ys o t reading parent none number grown pushed e =
+    let holds = opened_holds old here (reverse xs) o reading parent none in
+    rw (number, grown, pushed, reverse_push xs o)
     (follow t old here (reverse xs) (with_block old) (length old.blocks) (o ∷ reverse xs) End (record { part = part_of old o.kind; shape = o.shape; before = tree_of old here } ∷ arounds old (reverse xs)) holds e)
 
-pub second-follows : (old new : BodyParts) (here inner : ℕ) (xs mid ys : List Open) (o now : Open) (t : Token) → IsReading old here (reverse xs) → xs ≡ mid ++ o ∷ [] → o.kind ≡ kind.First
+pub second_follows : (old new : BodyParts) (here inner : ℕ) (xs mid ys : List Open) (o now : Open) (t : Token) → IsReading old here (reverse xs) → xs ≡ mid ++ o ∷ [] → o.kind ≡ kind.First
     → now.kind ≡ kind.Second here → now.shape ≡ o.shape → now.parent ≡ o.parent → t ≡ token.Else
     → inner ≡ length old.blocks → new ≡ with_block old → ys ≡ mid ++ now ∷ [] → Goal t old here (reverse xs) new inner (reverse ys)
-second-follows old new here inner xs mid ys o now t reading popped was is shape parent else_is number grown pushed =
-    let before : reverse xs ≡ o ∷ reverse mid = ap (λ (l : List Open). reverse l) popped ∙ reverse-push mid o in
+second_follows old new here inner xs mid ys o now t reading popped was is shape parent else_is number grown pushed =
+    let before : reverse xs ≡ o ∷ reverse mid = ap (λ (l : List Open). reverse l) popped ∙ reverse_push mid o in
     let reading_o = rw before at reading in
-    let holds = second-holds old here (reverse mid) o now reading_o was is shape parent in
-    rw (number, grown, pushed, before, reverse-push mid now)
+    let holds = second_holds old here (reverse mid) o now reading_o was is shape parent in
+    rw (number, grown, pushed, before, reverse_push mid now)
     (follow t old here (o ∷ reverse mid) (with_block old) (length old.blocks) (now ∷ reverse mid) End (record { part = OfSecond (tree_of old here); shape = o.shape; before = tree_of old o.parent } ∷ arounds old (reverse mid)) holds (rw (else_is, was) refl))
 
-pub end-follows : (old new : BodyParts) (here : ℕ) (xs mid : List Open) (o : Open) (t : Token) → IsReading old here (reverse xs) → xs ≡ mid ++ o ∷ [] → t ≡ token.End
+pub end_follows : (old new : BodyParts) (here : ℕ) (xs mid : List Open) (o : Open) (t : Token) → IsReading old here (reverse xs) → xs ≡ mid ++ o ∷ [] → t ≡ token.End
     → new ≡ with_instr old o.parent (node_of o.kind o.shape here) → Goal t old here (reverse xs) new o.parent (reverse mid)
-end-follows old new here xs mid o t reading popped end_is grown =
-    let before : reverse xs ≡ o ∷ reverse mid = ap (λ (l : List Open). reverse l) popped ∙ reverse-push mid o in
+end_follows old new here xs mid o t reading popped end_is grown =
+    let before : reverse xs ≡ o ∷ reverse mid = ap (λ (l : List Open). reverse l) popped ∙ reverse_push mid o in
     let reading_o = rw before at reading in
-    let holds = closed-holds old here (reverse mid) o reading_o in
+    let holds = closed_holds old here (reverse mid) o reading_o in
     rw (grown, before)
     (follow t old here (o ∷ reverse mid) (with_instr old o.parent (node_of o.kind o.shape here)) o.parent (reverse mid) (joined (tree_of old o.parent) (node (part_of old o.kind) o.shape (tree_of old here))) (arounds old (reverse mid)) holds (rw end_is refl))
 
-pub end-within : (old : BodyParts) (here : ℕ) (xs mid : List Open) (o : Open) → IsReading old here (reverse xs) → xs ≡ mid ++ o ∷ [] → o.parent < length old.blocks
-end-within old here xs mid o reading popped =
-    let before : reverse xs ≡ o ∷ reverse mid = ap (λ (l : List Open). reverse l) popped ∙ reverse-push mid o in
+pub end_within : (old : BodyParts) (here : ℕ) (xs mid : List Open) (o : Open) → IsReading old here (reverse xs) → xs ≡ mid ++ o ∷ [] → o.parent < length old.blocks
+end_within old here xs mid o reading popped =
+    let before : reverse xs ≡ o ∷ reverse mid = ap (λ (l : List Open). reverse l) popped ∙ reverse_push mid o in
     parent_within old here (reverse mid) o (rw before at reading)
 
 -- ---- each step adds one item at most
 
-pub room-instr : (old new : BodyParts) (b : ℕ) (instr : Instr) → b < length old.blocks → new ≡ with_instr old b instr → item_count new ≤ item_count old + 1
-room-instr old new b instr within is = omega (arith, ap (λ (body : BodyParts). item_count body) is, counts_instr old b instr within)
+pub room_instr : (old new : BodyParts) (b : ℕ) (instr : Instr) → b < length old.blocks → new ≡ with_instr old b instr → item_count new ≤ item_count old + 1
+room_instr old new b instr within is = omega (arith, ap (λ (body : BodyParts). item_count body) is, counts_instr old b instr within)
 
-pub room-block : (old new : BodyParts) → new ≡ with_block old → item_count new ≤ item_count old + 1
-room-block old new is = omega (arith, ap (λ (body : BodyParts). item_count body) is, counts_block old)
+pub room_block : (old new : BodyParts) → new ≡ with_block old → item_count new ≤ item_count old + 1
+room_block old new is = omega (arith, ap (λ (body : BodyParts). item_count body) is, counts_block old)

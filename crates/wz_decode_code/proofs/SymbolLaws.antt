@@ -15,8 +15,8 @@ use Rattle.wz_decode_code.specs.declared.token.Token.{Token}
 use Rattle.wz_decode_code.specs.declared.token.Token.TheVariants as token
 use Rattle.wz_decode_code.specs.Types.{IsValType, IsShape, type_at, shape_at}
 use Rattle.wz_decode_code.specs.Instructions.{IsU32, IsPlain}
-use Rattle.wz_decode_code.specs.InstrReading.{u32_at, instr_at, control_at}
-use Rattle.wz_decode_code.specs.Tokens.{Symbol, Single, BeginsBlock, BeginsLoop, BeginsIf, Else, Ends, IsSymbol, seen, token_at, labels_at, symbol_at, IsSimple, HasSimple}
+use Rattle.wz_decode_code.specs.InstrReading.{u32_at, instr_at, control_instr_at}
+use Rattle.wz_decode_code.specs.Tokens.{Symbol, Single, BeginsBlock, BeginsLoop, BeginsIf, Else, Ends, IsSymbol, seen, token_at, branch_labels_at, symbol_at, IsSimple, HasSimple}
 use Rattle.wz_decode_code.proofs.RowLemmas.{row, bare_row, made_finds, made_again}
 use Rattle.wz_decode_code.proofs.TypeLaws.{type_exact, shape_exact}
 use Rattle.wz_decode_code.proofs.OperandLaws.{u32_exact}
@@ -46,7 +46,7 @@ another read b k bytes x e none = at (nat_eq b k) refl where
   at false is = refl
 
 plain_token : (bytes : List ℕ) (i : Instr) (rest : List ℕ) → instr_at bytes ≡ Some (i, rest) → token_at bytes ≡ Some (token.Plain i, rest)
-unfolding token_at instr_at control_at
+unfolding token_at instr_at control_instr_at
 plain_token [] i rest e = absurd cc
 plain_token (b ∷ bytes) i rest e =
     let a = another (λ b. instr_at b) b 0x02 bytes (i, rest) e refl in
@@ -90,7 +90,7 @@ read_simple bytes t rest e = let f = token_found bytes t rest e in token_simple 
 abbrev IsLabels : List ℕ → List ℕ × ℕ → Type 0
 IsLabels text x = Both (λ t ls. IsVector (λ t n. IsU32 t n) t ls) (λ t n. IsU32 t n) text x
 
-labels_exact : IsExact IsLabels (λ bytes. labels_at bytes)
+labels_exact : IsExact IsLabels (λ bytes. branch_labels_at bytes)
 labels_exact = both_exact (λ t ls. IsVector (λ t n. IsU32 t n) t ls) (λ t n. IsU32 t n) (λ b. vector_at (λ b. u32_at b) b) (λ b. u32_at b) (vector_exact (λ t n. IsU32 t n) (λ b. u32_at b) u32_exact) u32_exact
 
 abbrev IsTypes : List ℕ → List ValType → Type 0
@@ -103,13 +103,13 @@ symbol_found : (bytes : List ℕ) (s : Symbol) (rest : List ℕ) → symbol_at b
 unfolding symbol_at
 symbol_found [] s rest e = absurd cc
 symbol_found (b ∷ bytes) s rest e =
-    row IsLabels (λ b. labels_at b) labels_exact IsSymbol (λ x. Single (TableBranch x.0 x.1)) b 0x0E bytes _ (λ text x h. (text, refl, h))
+    row IsLabels (λ b. branch_labels_at b) labels_exact IsSymbol (λ x. Single (TableBranch x.0 x.1)) b 0x0E bytes _ (λ text x h. (text, refl, h))
     (row IsTypes (λ b. vector_at (λ b. type_at b) b) types_exact IsSymbol (λ ts. Single (TypedSelect ts)) b 0x1C bytes _ (λ text x h. (text, refl, h))
     (made_finds IsToken (λ b. token_at b) token_exact IsSymbol (λ t. seen (λ i. Plain i) t) (λ text t h. h) (b ∷ bytes))) s rest e
 
 -- a token is read as its symbol
 pub token_symbol : (bytes : List ℕ) (t : Token) (rest : List ℕ) → token_at bytes ≡ Some (t, rest) → symbol_at bytes ≡ Some (seen (λ i. Plain i) t, rest)
-unfolding symbol_at token_at instr_at control_at
+unfolding symbol_at token_at instr_at control_instr_at
 token_symbol [] t rest e = absurd cc
 token_symbol (b ∷ bytes) t rest e =
     let a = another (λ b. token_at b) b 0x0E bytes (t, rest) e refl in
@@ -122,7 +122,7 @@ by_token text t rest h = token_symbol (text ++ rest) t rest (token_again text t 
 symbol_again : (text : List ℕ) (s : Symbol) (rest : List ℕ) → IsSymbol text s → symbol_at (text ++ rest) ≡ Some (s, rest)
 unfolding symbol_at
 symbol_again text (Single (Plain i)) rest h = by_token text (token.Plain i) rest h
-symbol_again text (Single (TableBranch labels last)) rest h = rw h.1 (made_again IsLabels (λ b. labels_at b) labels_exact (λ x. Single (TableBranch x.0 x.1)) h.0 rest (labels, last) h.2)
+symbol_again text (Single (TableBranch labels last)) rest h = rw h.1 (made_again IsLabels (λ b. branch_labels_at b) labels_exact (λ x. Single (TableBranch x.0 x.1)) h.0 rest (labels, last) h.2)
 symbol_again text (Single (TypedSelect types)) rest h = rw h.1 (made_again IsTypes (λ b. vector_at (λ b. type_at b) b) types_exact (λ ts. Single (TypedSelect ts)) h.0 rest types h.2)
 symbol_again text (BeginsBlock s) rest h = by_token text (token.Block s) rest h
 symbol_again text (BeginsLoop s) rest h = by_token text (token.Loop s) rest h

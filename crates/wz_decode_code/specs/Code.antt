@@ -10,8 +10,8 @@ abbrev pub Behind : ℕ → (List ℕ → Type 0) → List ℕ → Type 0
 Behind opcode IsRest text = (rest : List ℕ) × (text ≡ opcode ∷ rest) × IsRest rest
 
 -- what a block's opcode has behind it: the block's type, its instructions, 0B, and what follows the block
-abbrev pub IsHeld : (List ℕ → Type 0) → (List ℕ → Type 0) → Shape → List ℕ → Type 0
-IsHeld IsInner IsRest shape text =
+abbrev pub IsBlockRest : (List ℕ → Type 0) → (List ℕ → Type 0) → Shape → List ℕ → Type 0
+IsBlockRest IsInner IsRest shape text =
     (type inner rest : List ℕ) × (text ≡ type ++ (inner ++ 0x0B ∷ rest)) × IsShape type shape × IsInner inner × IsRest rest
 
 -- the second arm of an if: 05 and its instructions, or nothing where it is empty
@@ -22,9 +22,9 @@ IsSecond code IsArm text = ((code ≡ End) × (text ≡ [])) ⊎ Behind 0x05 IsA
 abbrev pub IsCode : List ℕ → Code → Type 0
 IsCode text End = text ≡ []
 IsCode text (Then leaf more) = (first rest : List ℕ) × (text ≡ first ++ rest) × IsLeaf first leaf × IsCode rest more
-IsCode text (InBlock shape inner more) = Behind 0x02 (IsHeld (λ t. IsCode t inner) (λ t. IsCode t more) shape) text
-IsCode text (InLoop shape inner more) = Behind 0x03 (IsHeld (λ t. IsCode t inner) (λ t. IsCode t more) shape) text
-IsCode text (InIf shape one two more) = Behind 0x04 (IsHeld
+IsCode text (InBlock shape inner more) = Behind 0x02 (IsBlockRest (λ t. IsCode t inner) (λ t. IsCode t more) shape) text
+IsCode text (InLoop shape inner more) = Behind 0x03 (IsBlockRest (λ t. IsCode t inner) (λ t. IsCode t more) shape) text
+IsCode text (InIf shape one two more) = Behind 0x04 (IsBlockRest
     (λ t. (first second : List ℕ) × (t ≡ first ++ second) × IsCode first one × IsSecond two (λ u. IsCode u two) second)
     (λ t. IsCode t more) shape) text
 

@@ -20,9 +20,9 @@ IsU32 text n = IsUnsigned 32 text n
 abbrev pub Two : List ℕ → ℕ × ℕ → Type 0
 Two text xy = Both (λ t n. IsU32 t n) (λ t n. IsU32 t n) text xy
 
--- the number of the one memory there is, which is a plain byte
-abbrev pub IsMemory : List ℕ → ℕ → Type 0
-IsMemory text memory = (text ≡ 0x00 ∷ []) × (memory ≡ 0)
+-- the zero byte that stands where later versions have the number of a memory, and the number 0 that it is
+abbrev pub IsZeroByte : List ℕ → ℕ → Type 0
+IsZeroByte text memory = (text ≡ 0x00 ∷ []) × (memory ≡ 0)
 
 -- Section 5.4.6: an alignment, and an offset into the one memory there is
 pub record MemArg : Type 0 where
@@ -91,12 +91,12 @@ IsPlain text (instr.TableSize table) = Prefixed 16 (λ t n. IsU32 t n) text tabl
 IsPlain text (instr.TableFill table) = Prefixed 17 (λ t n. IsU32 t n) text table
 -- memories (5.4.6)
 IsPlain text (instr.Access op align offset memory) = Tagged (access_opcode_of op) (λ t m. IsMemArg t m) text (record { align = align; offset = offset; memory = memory })
-IsPlain text (instr.MemorySize memory) = Tagged 0x3F (λ t m. IsMemory t m) text memory
-IsPlain text (instr.MemoryGrow memory) = Tagged 0x40 (λ t m. IsMemory t m) text memory
-IsPlain text (instr.MemoryInit segment memory) = Prefixed 8 (λ t xy. Both (λ t n. IsU32 t n) (λ t m. IsMemory t m) t xy) text (segment, memory)
+IsPlain text (instr.MemorySize memory) = Tagged 0x3F (λ t m. IsZeroByte t m) text memory
+IsPlain text (instr.MemoryGrow memory) = Tagged 0x40 (λ t m. IsZeroByte t m) text memory
+IsPlain text (instr.MemoryInit segment memory) = Prefixed 8 (λ t xy. Both (λ t n. IsU32 t n) (λ t m. IsZeroByte t m) t xy) text (segment, memory)
 IsPlain text (instr.DataDrop segment) = Prefixed 9 (λ t n. IsU32 t n) text segment
-IsPlain text (instr.MemoryCopy to from) = Prefixed 10 (λ t xy. Both (λ t m. IsMemory t m) (λ t m. IsMemory t m) t xy) text (to, from)
-IsPlain text (instr.MemoryFill memory) = Prefixed 11 (λ t m. IsMemory t m) text memory
+IsPlain text (instr.MemoryCopy to from) = Prefixed 10 (λ t xy. Both (λ t m. IsZeroByte t m) (λ t m. IsZeroByte t m) t xy) text (to, from)
+IsPlain text (instr.MemoryFill memory) = Prefixed 11 (λ t m. IsZeroByte t m) text memory
 -- numeric (5.4.7)
 IsPlain text (instr.I32Const bits) = Tagged 0x41 (λ t n. IsI32 t n) text bits
 IsPlain text (instr.I64Const bits) = Tagged 0x42 (λ t n. IsI64 t n) text bits

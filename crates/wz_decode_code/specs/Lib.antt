@@ -8,3 +8,4 @@ pub mod Reading
 pub mod Opened
 pub mod Pools
 pub mod Laws
+pub mod Faults

@@ -12,9 +12,9 @@ use Rattle.wz_decode_code.specs.declared.blocks.Kind.{Kind}
 use Rattle.wz_decode_code.specs.declared.blocks.Kind.TheVariants as kind
 use Rattle.wz_decode_code.specs.declared.blocks.Open.{Open}
 use Rattle.wz_decode_code.specs.Tokens.{Symbol, seen}
-use Rattle.wz_decode_code.specs.Reading.{Part, OfBlock, OfLoop, OfFirst, OfSecond, Around, Next, On, Done, after}
+use Rattle.wz_decode_code.specs.Reading.{BlockPart, OfBlock, OfLoop, OfFirst, OfSecond, Around, Next, On, Done, after_symbol}
 
-abbrev pub part_of : BodyParts → Kind → Part
+abbrev pub part_of : BodyParts → Kind → BlockPart
 part_of body kind.Block = OfBlock
 part_of body kind.Loop = OfLoop
 part_of body kind.First = OfFirst
@@ -28,27 +28,27 @@ abbrev pub arounds : BodyParts → List Open → List Around
 arounds body opens = map (λ o. around_of body o) opens
 
 -- the first arm that nothing names yet
-abbrev pub pending : Kind → List ℕ
-pending (kind.Second first) = first ∷ []
-pending kind = []
+abbrev pub first_arm_of : Kind → List ℕ
+first_arm_of (kind.Second first) = first ∷ []
+first_arm_of kind = []
 
 -- the blocks around the innermost one that no instruction names yet
-abbrev pub others : List Open → List ℕ
-others [] = []
-others (o ∷ opens) = pending o.kind ++ o.parent ∷ others opens
+abbrev pub unnamed_around : List Open → List ℕ
+unnamed_around [] = []
+unnamed_around (o ∷ opens) = first_arm_of o.kind ++ o.parent ∷ unnamed_around opens
 
-abbrev pub held : ℕ → List Open → List ℕ
-held here opens = here ∷ others opens
+abbrev pub unnamed_blocks : ℕ → List Open → List ℕ
+unnamed_blocks here opens = here ∷ unnamed_around opens
 
 -- a block comes behind its parent, and so does a first arm; the outermost is the body
-abbrev pub Rises : ℕ → List Open → Type 0
-Rises here [] = here ≡ 0
-Rises here (o ∷ opens) = (o.parent < here) × Every (λ k. o.parent < k) (pending o.kind) × Rises o.parent opens
+abbrev pub ParentsRise : ℕ → List Open → Type 0
+ParentsRise here [] = here ≡ 0
+ParentsRise here (o ∷ opens) = (o.parent < here) × Every (λ k. o.parent < k) (first_arm_of o.kind) × ParentsRise o.parent opens
 
 -- an expression that is being read
 pub record IsReading (body : BodyParts) (here : ℕ) (opens : List Open) : Type 0 where
-  pub building : IsBuilding body (held here opens)
-  pub rises : Rises here opens
+  pub building : IsBuilding body (unnamed_blocks here opens)
+  pub rises : ParentsRise here opens
 
 -- the instruction that a block becomes at its end
 abbrev pub node_of : Kind → Shape → ℕ → Instr
@@ -69,13 +69,13 @@ NamesNone (instr.If shape first second) = ⊥
 NamesNone instr = Unit {0}
 
 -- a token's instruction names no block, and what it names of the pools is there
-abbrev pub Fits : BodyParts → Token → Type 0
-Fits body (token.Plain instr) = NamesNone instr × InPools body.labels body.types instr
-Fits body token = Unit {0}
+abbrev pub TokenFits : BodyParts → Token → Type 0
+TokenFits body (token.Plain instr) = NamesNone instr × InPools body.labels body.types instr
+TokenFits body token = Unit {0}
 
 -- what the token makes of what was read, where `here` is the innermost open block
 abbrev pub next_of : BodyParts → ℕ → List Open → Token → Next
-next_of body here opens token = after (seen_in body token) (tree_of body here) (arounds body opens)
+next_of body here opens token = after_symbol (seen_in body token) (tree_of body here) (arounds body opens)
 
 -- what is read now is what the token makes of what was read before
 abbrev pub Follows : Next → Option ℕ → BodyParts → List Open → Type 0
@@ -83,6 +83,6 @@ Follows next (Some here) body opens = IsReading body here opens × (next ≡ On 
 Follows next None body opens = IsReading body 0 [] × (next ≡ Done (tree_of body 0))
 
 -- how many items such a step may have added
-abbrev pub items_of : Option ℕ → ℕ
-items_of (Some here) = 1
-items_of None = 0
+abbrev pub items_of_step : Option ℕ → ℕ
+items_of_step (Some here) = 1
+items_of_step None = 0

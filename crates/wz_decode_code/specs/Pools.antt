@@ -4,9 +4,11 @@ use Rattle.wz_bytes.specs.Forms.{items_at}
 use Rattle.wz_types.specs.declared.types.ValType.{ValType}
 use Rattle.wz_code.specs.BodyParts.{BodyParts, item_count}
 use Rattle.wz_decode_code.specs.declared.token.Token.{Token}
-use Rattle.wz_decode_code.specs.Entry.{Run, locals_at}
+use Rattle.wz_decode_code.specs.Types.{type_at}
+use Rattle.wz_decode_code.specs.InstrReading.{u32_at}
+use Rattle.wz_decode_code.specs.Entry.{Run, run_at, locals_at}
 use Rattle.wz_decode_code.specs.Tokens.{symbol_at}
-use Rattle.wz_decode_code.specs.Opened.{seen_in, Fits}
+use Rattle.wz_decode_code.specs.Opened.{seen_in, TokenFits}
 
 -- ---- more items in one of the lists
 
@@ -40,6 +42,15 @@ pub record Added {X : Type 0} (read : List ℕ → Option (X × List ℕ)) (grow
   pub all : items_at read n bytes ≡ Some (items, rest)
   pub fewer : length items + length rest ≤ length bytes
 
+abbrev pub LabelsAdded : ℕ → List ℕ → BodyParts → BodyParts → List ℕ → Type 0
+LabelsAdded n bytes old new rest = Added (λ b. u32_at b) (λ body labels. with_labels body labels) n bytes old new rest
+
+abbrev pub TypesAdded : ℕ → List ℕ → BodyParts → BodyParts → List ℕ → Type 0
+TypesAdded n bytes old new rest = Added (λ b. type_at b) (λ body types. with_types body types) n bytes old new rest
+
+abbrev pub RunsAdded : ℕ → List ℕ → BodyParts → BodyParts → List ℕ → Type 0
+RunsAdded n bytes old new rest = Added (λ b. run_at b) (λ body runs. with_runs body runs) n bytes old new rest
+
 -- the place behind the last of so many items that were added, or 0 where there are none
 abbrev pub EndsBehind : ℕ → ℕ → ℕ → Type 0
 EndsBehind added end now = (added ≡ 0 → end ≡ 0) × (0 < added → end ≡ now)
@@ -52,7 +63,7 @@ pub record Stand {X : Type 0} (first count : ℕ) (old new : List X) : Type 0 wh
 -- ---- a symbol
 
 -- there are some more labels and types in the pools, and all else is as it was
-pub record Grown (old new : BodyParts) : Type 0 where
+pub record PoolsGrown (old new : BodyParts) : Type 0 where
   pub labels : List ℕ
   pub types : List ValType
   pub is : new ≡ record old { labels = old.labels ++ labels; types = old.types ++ types }
@@ -60,8 +71,8 @@ pub record Grown (old new : BodyParts) : Type 0 where
 -- a symbol was read, as a token and what it names in the pools; each item that was added took a byte, and the symbol one more
 pub record SymbolRead (bytes : List ℕ) (old new : BodyParts) (token : Token) (rest : List ℕ) : Type 0 where
   pub read : symbol_at bytes ≡ Some (seen_in new token, rest)
-  pub grown : Grown old new
-  pub fits : Fits new token
+  pub grown : PoolsGrown old new
+  pub fits : TokenFits new token
   pub room : item_count new + length rest < item_count old + length bytes
 
 -- ---- the locals

@@ -8,20 +8,20 @@ use Rattle.wz_decode_code.specs.Entry.{Entry, locals_at}
 use Rattle.wz_decode_code.specs.Tokens.{Symbol, Single, BeginsBlock, BeginsLoop, BeginsIf, Else, Ends, symbol_at}
 
 -- which part of its parent an open block is; the second arm of an if has the first one with it
-pub data Part : Type 0 where
-  OfBlock : Part
-  OfLoop : Part
-  OfFirst : Part
-  OfSecond : Code → Part
+pub data BlockPart : Type 0 where
+  OfBlock : BlockPart
+  OfLoop : BlockPart
+  OfFirst : BlockPart
+  OfSecond : Code → BlockPart
 
 -- an open block: its part and type, and the code before it in its parent
 pub record Around : Type 0 where
-  pub part : Part
+  pub part : BlockPart
   pub shape : Shape
   pub before : Code
 
 -- what a block is at its end
-abbrev pub node : Part → Shape → Code → Code
+abbrev pub node : BlockPart → Shape → Code → Code
 node OfBlock shape inner = InBlock shape inner End
 node OfLoop shape inner = InLoop shape inner End
 node OfFirst shape inner = InIf shape inner End End
@@ -36,7 +36,7 @@ pub data Next : Type 0 where
 abbrev pub after_else : Code → List Around → Next
 after_else here [] = Refused
 after_else here (o ∷ around) = second o.part o here around where
-  second : Part → Around → Code → List Around → Next
+  second : BlockPart → Around → Code → List Around → Next
   second OfFirst o here around = On End (record { part = OfSecond here; shape = o.shape; before = o.before } ∷ around)
   second part o here around = Refused
 
@@ -44,16 +44,16 @@ abbrev pub after_end : Code → List Around → Next
 after_end here [] = Done here
 after_end here (o ∷ around) = On (joined o.before (node o.part o.shape here)) around
 
-abbrev pub opened : Part → Shape → Code → List Around → Next
+abbrev pub opened : BlockPart → Shape → Code → List Around → Next
 opened part shape here around = On End (record { part = part; shape = shape; before = here } ∷ around)
 
-abbrev pub after : Symbol → Code → List Around → Next
-after (Single leaf) here around = On (joined here (Then leaf End)) around
-after (BeginsBlock shape) here around = opened OfBlock shape here around
-after (BeginsLoop shape) here around = opened OfLoop shape here around
-after (BeginsIf shape) here around = opened OfFirst shape here around
-after Else here around = after_else here around
-after Ends here around = after_end here around
+abbrev pub after_symbol : Symbol → Code → List Around → Next
+after_symbol (Single leaf) here around = On (joined here (Then leaf End)) around
+after_symbol (BeginsBlock shape) here around = opened OfBlock shape here around
+after_symbol (BeginsLoop shape) here around = opened OfLoop shape here around
+after_symbol (BeginsIf shape) here around = opened OfFirst shape here around
+after_symbol Else here around = after_else here around
+after_symbol Ends here around = after_end here around
 
 abbrev pub go_on : (Code → List Around → Option (Code × List ℕ)) → List ℕ → Next → Option (Code × List ℕ)
 go_on more bytes (On here around) = more here around
@@ -63,7 +63,7 @@ go_on more bytes Refused = None
 -- the rest of the expression, in at most so many symbols
 unfoldable pub rest_at : ℕ → List ℕ → Code → List Around → Option (Code × List ℕ)
 rest_at zero bytes here around = None
-rest_at (suc fuel) bytes here around = symbol_at bytes >>= λ s. go_on (λ here around. rest_at fuel s.1 here around) s.1 (after s.0 here around)
+rest_at (suc fuel) bytes here around = symbol_at bytes >>= λ s. go_on (λ here around. rest_at fuel s.1 here around) s.1 (after_symbol s.0 here around)
 
 -- the rest of the expression behind code within open blocks; there are no more symbols than bytes
 unfoldable pub reads : List ℕ → Code → List Around → Option (Code × List ℕ)

@@ -65,12 +65,12 @@ token_at (b ∷ bytes) =
     else (if b == 0x0B then Some (token.End, bytes)
     else made_at (λ i. token.Plain i) (λ b. instr_at b) (b ∷ bytes)))))
 
-abbrev pub labels_at : List ℕ → Option ((List ℕ × ℕ) × List ℕ)
-labels_at bytes = both_at (λ b. vector_at (λ b. u32_at b) b) (λ b. u32_at b) bytes
+abbrev pub branch_labels_at : List ℕ → Option ((List ℕ × ℕ) × List ℕ)
+branch_labels_at bytes = both_at (λ b. vector_at (λ b. u32_at b) b) (λ b. u32_at b) bytes
 
 unfoldable pub symbol_at : List ℕ → Option (Symbol × List ℕ)
 symbol_at [] = None
 symbol_at (b ∷ bytes) =
-    if b == 0x0E then made_at (λ x. Single (TableBranch x.0 x.1)) (λ b. labels_at b) bytes
+    if b == 0x0E then made_at (λ x. Single (TableBranch x.0 x.1)) (λ b. branch_labels_at b) bytes
     else (if b == 0x1C then made_at (λ ts. Single (TypedSelect ts)) (λ b. vector_at (λ b. type_at b) b) bytes
     else made_at (λ t. seen (λ i. Plain i) t) (λ b. token_at b) (b ∷ bytes))

@@ -1,6 +1,6 @@
 -- Sections 5.3 and 5.4.1 of the Core Specification: types of values and references, and of blocks.
 use Rattle.std.specs.Prelude.{◌≡◌, ℕ, ℤ, pos, negsuc, List, [], ◌∷◌, Option, Some, None, ◌==◌, if◌then◌else◌}
-use Rattle.wz_bytes.specs.Reading.{◌>>=◌}
+use Rattle.wz_bytes.specs.Reading.{◌>>=◌, Reading}
 use Rattle.wz_bytes.specs.Signed.{IsSigned, signed_at}
 use Rattle.wz_types.specs.declared.types.ValType.{ValType}
 use Rattle.wz_types.specs.declared.types.ValType.TheVariants.{I32, I64, F32, F64, FuncRef, ExternRef}
@@ -48,26 +48,32 @@ type_of_byte b =
     else (if b == 0x6F then Some ExternRef
     else None)))))
 
-unfoldable pub type_at : List ℕ → Option (ValType × List ℕ)
+unfoldable pub type_at : Reading ValType
 type_at [] = None
 type_at (b ∷ bytes) = type_of_byte b >>= λ type. Some (type, bytes)
 
-unfoldable pub kind_at : List ℕ → Option (RefKind × List ℕ)
+abbrev pub kind_of_byte : ℕ → Option RefKind
+kind_of_byte b =
+    if b == 0x70 then Some kind.Func
+    else (if b == 0x6F then Some kind.Extern
+    else None)
+
+unfoldable pub kind_at : Reading RefKind
 kind_at [] = None
-kind_at (b ∷ bytes) = if b == 0x70 then Some (kind.Func, bytes) else (if b == 0x6F then Some (kind.Extern, bytes) else None)
+kind_at (b ∷ bytes) = kind_of_byte b >>= λ kind. Some (kind, bytes)
 
 abbrev pub index_of : ℤ → Option Shape
 index_of (pos number) = Some (Index number)
 index_of (negsuc n) = None
 
 -- the number of a type
-abbrev pub index_at : List ℕ → Option (Shape × List ℕ)
+abbrev pub index_at : Reading Shape
 index_at bytes = signed_at 33 bytes >>= λ z. index_of z.0 >>= λ shape. Some (shape, z.1)
 
-abbrev pub one_or_index : Option ValType → List ℕ → List ℕ → Option (Shape × List ℕ)
-one_or_index (Some type) rest bytes = Some (One type, rest)
-one_or_index None rest bytes = index_at bytes
+abbrev pub one_or_index : Option (ValType × List ℕ) → Reading Shape
+one_or_index (Some type) bytes = Some (One type.0, type.1)
+one_or_index None bytes = index_at bytes
 
-unfoldable pub shape_at : List ℕ → Option (Shape × List ℕ)
+unfoldable pub shape_at : Reading Shape
 shape_at [] = None
-shape_at (b ∷ bytes) = if b == 0x40 then Some (Empty, bytes) else one_or_index (type_of_byte b) bytes (b ∷ bytes)
+shape_at (b ∷ bytes) = if b == 0x40 then Some (Empty, bytes) else one_or_index (type_at (b ∷ bytes)) (b ∷ bytes)

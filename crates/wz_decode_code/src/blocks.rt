@@ -4,7 +4,7 @@ ghost use Rattle.std.specs.Prelude.{◌≡◌, ◌<◌, ◌≤◌, ◌+◌, ◌-
 ghost use Rattle.wz_code.specs.BodyParts.{with_block, item_count};
 ghost use Rattle.wz_decode_code.specs.declared.fault.CodeFault.TheVariants.{Bad};
 ghost use Rattle.wz_decode_code.specs.Reading.{Refused};
-ghost use Rattle.wz_decode_code.specs.Opened.{node_of, next_of, Fits, IsReading, Follows, items_of};
+ghost use Rattle.wz_decode_code.specs.Opened.{node_of, next_of, TokenFits, IsReading, Follows, items_of_step};
 
 use crate::fault::CodeFault;
 use crate::token::Token;
@@ -60,8 +60,8 @@ fn enter(
     requires { length builder.old.blocks < 2 ^ 32 - 1 }
     ensures number { IfOk result (λ n. n ≡ length builder.old.blocks) }
     ensures added { OnOk result (builder.new ≡ with_block builder.old) }
-    ensures opens { OnOk result
-        (opens.new.items ≡ opens.old.items ++ record { kind = kind; shape = shape; parent = parent } ∷ []) }
+    ensures opens { let was = opens.old.items in OnOk result
+        (opens.new.items ≡ was ++ record { kind = kind; shape = shape; parent = parent } ∷ []) }
     ensures not_bad { IsErrOf result Bad → ⊥ }
 {
     let inner = builder.add_block()?;
@@ -82,13 +82,14 @@ pub(crate) fn step(
     token: Token,
 ) -> Result<Option<u32>, CodeFault>
     requires reading { IsReading builder.old here (reverse opens.old.items) }
-    requires fits { Fits builder.old token }
+    requires fits { TokenFits builder.old token }
     requires room { item_count builder.old < 2 ^ 32 - 1 }
     ensures ok { let next = next_of builder.old here (reverse opens.old.items) token in
         IfOk result (λ to. Follows next to builder.new (reverse opens.new.items)) }
     ensures bad { let next = next_of builder.old here (reverse opens.old.items) token in
         IsErrOf result Bad → next ≡ Refused }
-    ensures room { IfOk result (λ to. item_count builder.new ≤ item_count builder.old + items_of to) }
+    ensures room { let was = item_count builder.old in
+        IfOk result (λ to. item_count builder.new ≤ was + items_of_step to) }
     ensures locals { OnOk result (builder.new.locals ≡ builder.old.locals) }
 {
     match token {

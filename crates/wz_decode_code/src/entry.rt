@@ -1,18 +1,18 @@
 //! What stands in an entry of the code section, within its size.
 
 ghost use Rattle.std.specs.Prelude.{◌≡◌, ◌<◌, ◌+◌, ◌-◌, ◌^◌, None, length, drop, IfOk, IsErrOf};
-ghost use Rattle.std.specs.Option.{option_map};
+ghost use Rattle.wz_bytes.specs.Place.{Takes};
 ghost use Rattle.wz_bytes.specs.Forms.{items_at};
 ghost use Rattle.wz_decode_code.specs.declared.fault.CodeFault.TheVariants.{Bad};
 ghost use Rattle.wz_decode_code.specs.Entry.{IsEntry, entry_of, run_at, locals_at, count_of};
-ghost use Rattle.wz_decode_code.specs.Pools.{with_runs, Added, LocalsRead};
+ghost use Rattle.wz_decode_code.specs.Pools.{RunsAdded, LocalsRead};
 ghost use Rattle.wz_decode_code.specs.Laws.{SpellsNone};
 
 use crate::expr::read_code;
 use crate::fault::CodeFault;
-use crate::numbers::number;
-use crate::types::read_type;
+use crate::types::take_type;
 use std::alloc::Global;
+use wz_bytes::Cursor;
 use wz_code::{Body, BodyBuilder};
 use wz_types::ValType;
 
@@ -24,61 +24,61 @@ pub fn read_body(alloc: Global, bytes: &[u8]) -> Result<Body, CodeFault>
     ensures bad { IsErrOf result Bad → SpellsNone (λ t entry. IsEntry t entry) bytes.now }
 {
     let mut builder = BodyBuilder::new(alloc);
-    let rest = read_locals(&mut builder, bytes)?;
-    let (body, rest) = read_code(alloc, builder, rest)?;
-    if !rest.is_empty() {
+    let mut cursor = Cursor::new(bytes);
+    read_locals(&mut builder, &mut cursor)?;
+    let body = read_code(alloc, builder, &mut cursor)?;
+    if !cursor.left().is_empty() {
         return Err(CodeFault::Bad);
     }
     Ok(body)
 }
 
-/// Adds the runs of locals in front, and gives the bytes behind them.
-fn read_locals<'a>(builder: &mut BodyBuilder, bytes: &'a [u8]) -> Result<&'a [u8], CodeFault>
-    requires { length builder.old.locals + length bytes.now < 2 ^ 32 }
-    ensures ok { IfOk result (λ rest. LocalsRead bytes.now builder.old builder.new rest.now) }
-    ensures bad { IsErrOf result Bad → locals_at bytes.now ≡ None }
+/// Adds the runs of locals in front.
+fn read_locals(builder: &mut BodyBuilder, cursor: &mut Cursor<'_>) -> Result<(), CodeFault>
+    requires { length builder.old.locals + length cursor.old.left < 2 ^ 32 }
+    ensures ok { let read = LocalsRead cursor.old.left builder.old builder.new cursor.new.left in
+        IfOk result (λ r. read) }
+    ensures bad { IsErrOf result Bad → locals_at cursor.old.left ≡ None }
 {
-    let Some((count, rest)) = number(bytes) else {
+    let Some(count) = cursor.number() else {
         return Err(CodeFault::Bad);
     };
-    let (total, rest) = add_runs(builder, count, rest)?;
+    let total = add_runs(builder, count, cursor)?;
     if total >= 1 << 32 {
         return Err(CodeFault::Bad);
     }
-    Ok(rest)
+    Ok(())
 }
 
-/// Adds so many runs of locals. It gives how many locals they are in all, and the bytes behind them.
-fn add_runs<'a>(
+/// Adds so many runs of locals. It gives how many locals they are in all.
+fn add_runs(
     builder: &mut BodyBuilder,
     count: u32,
-    bytes: &'a [u8],
-) -> Result<(u64, &'a [u8]), CodeFault>
-    requires { length builder.old.locals + length bytes.now < 2 ^ 32 }
-    ensures ok { let added = Added (λ b. run_at b) (λ body runs. with_runs body runs) count bytes.now in
-        IfOk result (λ r. added builder.old builder.new r.1.now) }
+    cursor: &mut Cursor<'_>,
+) -> Result<u64, CodeFault>
+    requires { length builder.old.locals + length cursor.old.left < 2 ^ 32 }
+    ensures ok { let added = RunsAdded count cursor.old.left builder.old in
+        IfOk result (λ r. added builder.new cursor.new.left) }
     ensures total { let runs = drop (length builder.old.locals) builder.new.locals in
-        IfOk result (λ r. r.0 ≡ count_of runs) }
-    ensures bad { IsErrOf result Bad → items_at (λ b. run_at b) count bytes.now ≡ None }
+        IfOk result (λ r. r ≡ count_of runs) }
+    ensures bad { IsErrOf result Bad → items_at (λ b. run_at b) count cursor.old.left ≡ None }
 {
-    let mut rest = bytes;
     let mut total = 0;
     for _ in 0..count {
-        let Some(((many, kind), after)) = run(rest) else {
+        let Some((many, kind)) = take_run(cursor) else {
             return Err(CodeFault::Bad);
         };
         builder.add_locals(many, kind)?;
         total += u64::from(many);
-        rest = after;
     }
-    Ok((total, rest))
+    Ok(total)
 }
 
-/// The run of locals in front, and the bytes behind it.
-fn run(bytes: &[u8]) -> Option<((u32, ValType), &[u8])>
-    ensures { option_map (λ r. ((r.0.0, r.0.1), r.1.now)) result ≡ run_at bytes.now }
+/// The run of locals in front.
+fn take_run(cursor: &mut Cursor<'_>) -> Option<(u32, ValType)>
+    ensures { Takes (λ r. (r.0, r.1)) result cursor.new (run_at cursor.old.left) }
 {
-    let (many, rest) = number(bytes)?;
-    let (kind, rest) = read_type(rest)?;
-    Some(((many, kind), rest))
+    let many = cursor.number()?;
+    let kind = take_type(cursor)?;
+    Some((many, kind))
 }

@@ -22,42 +22,42 @@ use wz_code::{Body, BodyBuilder};
 /// section 5.4.9).
 pub fn read_expr(alloc: Global, cursor: &mut Cursor<'_>) -> Result<Body, CodeFault>
     requires { length cursor.old.left < 2 ^ 32 - 1 }
-    ensures found { IfOk result (λ body. Passes IsExpression (tree_of body 0) cursor.old cursor.new) }
-    ensures no_locals { IfOk result (λ body. body.locals ≡ []) }
+    ensures found { IfOk result (λ b. Passes IsExpression (tree_of b 0) cursor.old cursor.new) }
+    ensures no_locals { IfOk result (λ b. b.locals ≡ []) }
     ensures bad { IsErrOf result Bad → NoFront IsExpression cursor.old.left }
     ensures stays { OnErr result (cursor.new ≡ cursor.old) }
 
     // The same as an equation, for proofs about longer readings.
-    ensures exact { Gives (λ body. tree_of body 0) result cursor.new (expression_at cursor.old.left) }
+    ensures exact { Gives (λ b. tree_of b 0) result cursor.new (expression_at cursor.old.left) }
 {
     let left = cursor.left();
-    let (body, rest) = read_code(alloc, BodyBuilder::new(alloc), left)?;
-    cursor.take(left.len() - rest.len());
+    let mut ahead = Cursor::new(left);
+    let body = read_code(alloc, BodyBuilder::new(alloc), &mut ahead)?;
+    cursor.take(left.len() - ahead.left().len());
     Ok(body)
 }
 
-/// The expression in front, and the bytes behind it. The builder has no instruction yet.
+/// The expression in front. The builder has no instruction yet.
 pub(crate) fn read_code(
     alloc: Global,
     mut builder: BodyBuilder,
-    bytes: &[u8],
-) -> Result<(Body, &[u8]), CodeFault>
+    cursor: &mut Cursor<'_>,
+) -> Result<Body, CodeFault>
     requires building { IsBuilding builder (0 ∷ []) }
     requires empty { tree_of builder 0 ≡ End }
-    requires room { item_count builder + length bytes.now < 2 ^ 32 }
-    ensures ok { IfOk result (λ r. expression_at bytes.now ≡ Some (tree_of r.0 0, r.1.now)) }
-    ensures locals { IfOk result (λ r. r.0.locals ≡ builder.locals) }
-    ensures bad { IsErrOf result Bad → expression_at bytes.now ≡ None }
+    requires room { item_count builder + length cursor.old.left < 2 ^ 32 }
+    ensures ok { let read = expression_at cursor.old.left in
+        IfOk result (λ b. read ≡ Some (tree_of b 0, cursor.new.left)) }
+    ensures locals { IfOk result (λ b. b.locals ≡ builder.locals) }
+    ensures bad { IsErrOf result Bad → expression_at cursor.old.left ≡ None }
 {
     let mut opens = Vec::new(alloc);
     let mut here = 0;
-    let mut rest = bytes;
     'symbols: loop {
-        let (token, after) = read_symbol(&mut builder, rest)?;
-        rest = after;
+        let token = read_symbol(&mut builder, cursor)?;
         match step(&mut builder, &mut opens, here, token)? {
             Some(inner) => here = inner,
-            None => return Ok((builder.finish(), rest)),
+            None => return Ok(builder.finish()),
         }
     }
 }

@@ -1,7 +1,10 @@
+//! Why no code was read.
+
 ghost use Rattle.std.specs.Prelude.{◌≡◌};
 ghost use Rattle.wz_decode_code.specs.declared.fault.CodeFault.TheVariants.{NoMemory};
 
 use std::alloc::{AllocError, AllocFailed};
+use wz_bytes::ItemFault;
 
 /// Why no code was read: none is spelled there, or there was no memory for it.
 #[derive(Clone, Copy, Debug, PartialEq, Eq)]
@@ -23,5 +26,18 @@ impl<T: Drop> From<AllocFailed<T>> for CodeFault {
 
     fn from(_e: AllocFailed<T>) -> CodeFault {
         CodeFault::NoMemory
+    }
+}
+
+impl From<CodeFault> for ItemFault {
+    ghost use Rattle.wz_decode_code.specs.Faults.{item_fault};
+
+    ghost from_gives = { λ f e. e ≡ item_fault f };
+
+    fn from(fault: CodeFault) -> ItemFault {
+        match fault {
+            CodeFault::Bad => ItemFault::Bad,
+            CodeFault::NoMemory => ItemFault::NoMemory,
+        }
     }
 }

@@ -1,5 +1,5 @@
-//! What holds of the spellings of code, whatever reads them: the contract of each function is a law,
-//! and its body is empty.
+//! What holds of the spellings of code, whatever reads them: the contract of each function is a
+//! law, and its body is empty.
 
 ghost use Rattle.wz_decode_code.specs.Laws.{OneExpression, OneEntry, ExpressionIsExact, EntryIsExact, ValTypeIsExact, RefKindIsExact};
 
@@ -11,7 +11,6 @@ pub fn at_most_one()
 {}
 
 /// The reading as a function, which contracts of readers cite, gives just what the bytes spell.
-#[tactic(auto, using(crate::proofs::CodeLaws::expression_exact, crate::proofs::EntryLaws::entry_exact, crate::proofs::TypeLaws::type_exact, crate::proofs::TypeLaws::kind_exact))]
 pub fn reading_is_exact()
     ensures expression { ExpressionIsExact }
     ensures entry { EntryIsExact }

@@ -1,11 +1,11 @@
-//! Types of values, references and blocks.
+//! Types of values, references and blocks (Core Specification 2.0, sections 5.3.1 to 5.3.4, 5.4.1).
 
-ghost use Rattle.std.specs.Prelude.{◌≡◌, IfSome, IsNone};
-ghost use Rattle.std.specs.Option.{option_map};
-ghost use Rattle.wz_bytes.specs.Reading.{Front, NoFront};
-ghost use Rattle.wz_decode_code.specs.Types.{IsValType, IsRefKind, type_of_byte, type_at, kind_at, shape_at, index_at};
+ghost use Rattle.std.specs.Prelude.{◌≡◌, IfSome, IsNone, IfNone};
+ghost use Rattle.wz_bytes.specs.Reading.{NoFront};
+ghost use Rattle.wz_bytes.specs.Place.{Moves, Passes, Takes};
+ghost use Rattle.wz_decode_code.specs.Types.{IsValType, IsRefKind, type_of_byte, kind_of_byte, type_at, kind_at, shape_at};
 
-use wz_bytes::read_signed;
+use wz_bytes::Cursor;
 use wz_code::Shape;
 use wz_types::{RefKind, ValType};
 
@@ -24,57 +24,70 @@ fn type_of(byte: u8) -> Option<ValType>
     }
 }
 
-/// The type of values in front, and the bytes behind it (Core Specification 2.0, section 5.3.4).
-#[tactic(auto, unfolding(crate::specs::Types::type_at))]
-pub fn read_type(bytes: &[u8]) -> Option<(ValType, &[u8])>
-    ensures found { IfSome result (λ r. Front IsValType bytes.now r.0 r.1.now) }
-    ensures none { IsNone result → NoFront IsValType bytes.now }
-    ensures exact { option_map (λ r. (r.0, r.1.now)) result ≡ type_at bytes.now }
+/// The type of references that this byte stands for.
+fn kind_of(byte: u8) -> Option<RefKind>
+    ensures { result ≡ kind_of_byte byte }
 {
-    let [byte, rest @ ..] = bytes else {
-        return None;
-    };
-    Some((type_of(*byte)?, rest))
-}
-
-/// The type of references in front, and the bytes behind it.
-#[tactic(auto, unfolding(crate::specs::Types::kind_at))]
-pub fn read_kind(bytes: &[u8]) -> Option<(RefKind, &[u8])>
-    ensures found { IfSome result (λ r. Front IsRefKind bytes.now r.0 r.1.now) }
-    ensures none { IsNone result → NoFront IsRefKind bytes.now }
-    ensures exact { option_map (λ r. (r.0, r.1.now)) result ≡ kind_at bytes.now }
-{
-    match bytes {
-        [0x70, rest @ ..] => Some((RefKind::Func, rest)),
-        [0x6F, rest @ ..] => Some((RefKind::Extern, rest)),
+    match byte {
+        0x70 => Some(RefKind::Func),
+        0x6F => Some(RefKind::Extern),
         _ => None,
     }
 }
 
-/// The number of a type in front, which is signed and not negative.
-fn read_index(bytes: &[u8]) -> Option<(Shape, &[u8])>
-    ensures { option_map (λ r. (r.0, r.1.now)) result ≡ index_at bytes.now }
+/// Takes a type of values, which is one byte.
+pub fn take_type(cursor: &mut Cursor<'_>) -> Option<ValType>
+    ensures found { IfSome result (λ t. Passes IsValType t cursor.old cursor.new) }
+    ensures none { IsNone result → NoFront IsValType cursor.old.left }
+    ensures stays { IfNone result (cursor.new ≡ cursor.old) }
+    ensures exact { Moves (λ t. t) result cursor.old cursor.new (type_at cursor.old.left) }
 {
-    let (number, end) = read_signed::<33>(bytes, 0)?;
-    if number < 0 {
+    let [byte, ..] = cursor.left() else {
         return None;
-    }
-    Some((Shape::Index(number as u32), &bytes[end..]))
+    };
+    let Some(kind) = type_of(*byte) else {
+        return None;
+    };
+    cursor.byte();
+    Some(kind)
 }
 
-/// The type of a block in front, and the bytes behind it.
-#[tactic(auto, unfolding(crate::specs::Types::shape_at))]
-pub(crate) fn read_shape(bytes: &[u8]) -> Option<(Shape, &[u8])>
-    ensures { option_map (λ r. (r.0, r.1.now)) result ≡ shape_at bytes.now }
+/// Takes a type of references, which is one byte.
+pub fn take_kind(cursor: &mut Cursor<'_>) -> Option<RefKind>
+    ensures found { IfSome result (λ k. Passes IsRefKind k cursor.old cursor.new) }
+    ensures none { IsNone result → NoFront IsRefKind cursor.old.left }
+    ensures stays { IfNone result (cursor.new ≡ cursor.old) }
+    ensures exact { Moves (λ k. k) result cursor.old cursor.new (kind_at cursor.old.left) }
 {
-    let [byte, rest @ ..] = bytes else {
+    let [byte, ..] = cursor.left() else {
+        return None;
+    };
+    let Some(kind) = kind_of(*byte) else {
+        return None;
+    };
+    cursor.byte();
+    Some(kind)
+}
+
+/// Takes the type of a block: nothing, one value, or a type's number, which is signed and not
+/// negative.
+#[tactic(auto, unfolding(crate::specs::Types::shape_at))]
+pub(crate) fn take_shape(cursor: &mut Cursor<'_>) -> Option<Shape>
+    ensures { Takes (λ s. s) result cursor.new (shape_at cursor.old.left) }
+{
+    let [byte, ..] = cursor.left() else {
         return None;
     };
     if *byte == 0x40 {
-        return Some((Shape::Empty, rest));
+        cursor.byte();
+        return Some(Shape::Empty);
     }
-    match type_of(*byte) {
-        Some(kind) => Some((Shape::One(kind), rest)),
-        None => read_index(bytes),
+    if let Some(kind) = take_type(cursor) {
+        return Some(Shape::One(kind));
     }
+    let number = cursor.signed_33()?;
+    if number < 0 {
+        return None;
+    }
+    Some(Shape::Index(number as u32))
 }

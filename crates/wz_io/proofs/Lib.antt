@@ -1,4 +1,5 @@
 pub mod ToldLemmas
 pub mod ReadingLemmas
+pub mod WritingLemmas
 pub mod MemoryLemmas
 pub mod StreamLemmas

@@ -1,7 +1,7 @@
 -- What was opened last of the files in memory.
 use Rattle.std.proofs.Common.{◌≡◌, ℕ, Bool, false, List, ◌++◌, refl, sym, ap, ◌∙◌}
 use Rattle.std.specs.Prelude.{Option, None, Some}
-use Rattle.wz_io.specs.World.{IsOpenOn, Current, Told, File, appended, written}
+use Rattle.wz_io.specs.World.{IsOpenOn, Current, Told, File, with_more_output, with_output}
 use Rattle.wz_io.specs.Memory.{contents}
 use Rattle.wz_io.specs.Stream.{stream_current, memory_told}
 use Rattle.wz_io.specs.declared.files.Side.{Side}
@@ -9,18 +9,18 @@ use Rattle.wz_io.specs.declared.files.Side.TheVariants.{Input, Output}
 use Rattle.wz_io.specs.declared.memory.Entry.{Entry}
 use Rattle.wz_io.specs.declared.stream.Stream.{Stream}
 use Rattle.wz_io.specs.declared.stream.Stream.TheVariants as stream
-use Rattle.wz_io.proofs.ToldLemmas.{appended-written}
+use Rattle.wz_io.proofs.ToldLemmas.{with_more_output-with_output}
 
 -- a piece at the end of the file that was made
 pub told-made : (stdin stdout : List ℕ) (entries : List Entry) (old new : Entry) (opened failed : Bool) (piece : List ℕ) →
     new.path.items ≡ old.path.items → new.bytes.items ≡ old.bytes.items ++ piece →
     memory_told stdin stdout entries (stream.File new opened failed)
-    ≡ appended (memory_told stdin stdout entries (stream.File old opened failed)) (File old.path.items) piece
+    ≡ with_more_output (memory_told stdin stdout entries (stream.File old opened failed)) (File old.path.items) piece
 told-made stdin stdout entries old new opened failed piece path bytes =
     let t : Told = record { stdin = Some stdin; stdout = Some stdout; files = Some (contents entries) } in
-    ap (λ (p : List ℕ). written t (File p) new.bytes.items) path
-    ∙ ap (λ (b : List ℕ). written t (File old.path.items) b) bytes
-    ∙ sym (appended-written t (File old.path.items) old.bytes.items piece)
+    ap (λ (p : List ℕ). with_output t (File p) new.bytes.items) path
+    ∙ ap (λ (b : List ℕ). with_output t (File old.path.items) b) bytes
+    ∙ sym (with_more_output-with_output t (File old.path.items) old.bytes.items piece)
 
 side_of : Option Current → Side
 side_of None = Input

@@ -3,7 +3,7 @@
 use Rattle.std.specs.Prelude.{◌≡◌, ℕ, ◌+◌, ◌≤◌, ◌<◌, true, false, List, [], Option, None, Some, Result, Ok, Err, OnOk, OnErr, IfOk, IfSome, ◌↔◌, IsErrOf, take, length}
 use Rattle.std.specs.Option.{option_map}
 use Rattle.std.specs.Io.KnownBytes.{prepend_known, append_known}
-use Rattle.wz_io.specs.World.{World, Current, Told, Said, Name, Rose, input_of, IsThere, emptied, appended}
+use Rattle.wz_io.specs.World.{World, Current, Told, Said, Name, Rose, input_of, IsThere, with_empty_output, with_more_output}
 use Rattle.wz_io.specs.declared.files.Side.{Side}
 use Rattle.wz_io.specs.declared.files.Side.TheVariants.{Input, Output}
 use Rattle.wz_io.specs.declared.files.Failed.{Failed}
@@ -40,11 +40,11 @@ current_name (Some c) = c.name
 -- the bytes, as a function of the answer
 
 abbrev pub told_after_create : {T E : Type 0} → Told → Name → Result T E → Told
-told_after_create t name (Ok _) = emptied t name
+told_after_create t name (Ok _) = with_empty_output t name
 told_after_create t name (Err _) = t
 
 abbrev pub told_after_write : {E : Type 0} → Told → Name → List ℕ → Result ℕ E → Told
-told_after_write t name piece (Ok n) = appended t name (take n piece)
+told_after_write t name piece (Ok n) = with_more_output t name (take n piece)
 told_after_write t name piece (Err _) = t
 
 abbrev pub text_after_put : Option (List ℕ) → List ℕ → Result ℕ Failed → Option (List ℕ)

@@ -1,6 +1,7 @@
 pub mod World
 pub mod Calls
 pub mod Reading
+pub mod Writing
 pub mod Laws
 pub mod Names
 pub mod Plan

@@ -2,7 +2,7 @@
 -- WebAssembly Core Specification doesn't speak of files.
 use Rattle.std.specs.Prelude.{ℕ, Bool, List, [], Some, drop, is_none}
 use Rattle.std.specs.FinMap.{empty}
-use Rattle.wz_io.specs.World.{World, Told, Name, File, input_of, written}
+use Rattle.wz_io.specs.World.{World, Told, Name, File, input_of, with_output}
 use Rattle.wz_io.specs.Plan.{Plan}
 use Rattle.wz_io.specs.Stream.{stream_current, memory_told}
 use Rattle.wz_io.specs.declared.mem_files.MemFiles.{MemFiles}
@@ -30,7 +30,7 @@ told_at_start stdin = record { stdin = Some stdin; stdout = Some []; files = Som
 
 -- with this file
 abbrev pub with_file : World → List ℕ → List ℕ → World
-with_file w path bytes = record w { told = written w.told (File path) bytes }
+with_file w path bytes = record w { told = with_output w.told (File path) bytes }
 
 -- an input that isn't there
 abbrev pub is_missing : Told → Name → Bool

@@ -8,5 +8,5 @@ abbrev pub mem_said : MemSink → Said
 mem_said sink = record { faults = sink.faults; text = Some sink.text.items }
 
 -- how many more puts go through, where not all do
-abbrev pub mem_spared : MemSink → Option ℕ
-mem_spared sink = sink.spared
+abbrev pub mem_puts_left : MemSink → Option ℕ
+mem_puts_left sink = sink.puts_left

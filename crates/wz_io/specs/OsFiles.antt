@@ -10,8 +10,8 @@ use Rattle.wz_io.specs.declared.os_files.Opened.{Opened}
 use Rattle.wz_io.specs.declared.os_files.Opened.TheVariants as opened
 
 -- no bytes are told
-abbrev pub untold : Told
-untold = record { stdin = None; stdout = None; files = None }
+abbrev pub nothing_told : Told
+nothing_told = record { stdin = None; stdout = None; files = None }
 
 abbrev pub os_current : {I F : Type 0} → OwnedName → Bool → Opened I F → Option Current
 os_current name failed opened.Nothing = None
@@ -24,7 +24,7 @@ abbrev pub os_world : {A B C D : Type 0} → OsFiles A B C D → World
 os_world files = record {
   faults = files.faults;
   current = os_current files.name files.failed files.opened;
-  told = untold;
+  told = nothing_told;
   left = None;
   reads = 0;
 }

@@ -24,13 +24,13 @@ kind_number kind.Close = 4
 abbrev pub is_listed : Plan → CallKind → Bool
 is_listed plan k = list_any (λ failure. (kind_number failure.kind == kind_number k) && (failure.calls == 1)) plan
 
-abbrev pub counted_failure : CallKind → Failure → Failure
-counted_failure k failure =
+abbrev pub failure_after_call : CallKind → Failure → Failure
+failure_after_call k failure =
     if kind_number failure.kind == kind_number k then record failure { calls = failure.calls - 1 } else failure
 
 -- once a call of this kind was made
 abbrev pub after_call : Plan → CallKind → Plan
-after_call plan k = map (counted_failure k) plan
+after_call plan k = map (failure_after_call k) plan
 
 -- the nth call of this kind from here on is listed too
 abbrev pub with_failure_at : Plan → CallKind → ℕ → Plan

@@ -8,6 +8,10 @@ use Rattle.wz_io.specs.Calls.{with_failure}
 use Rattle.wz_io.specs.declared.reading.ReadAll.{ReadAll}
 use Rattle.wz_io.specs.declared.reading.ReadAll.TheVariants as all
 
+-- the longest input that the tool reads, in bytes
+abbrev pub input_limit : ℕ
+input_limit = 33554432
+
 -- some bytes were read from the front of what was left
 abbrev pub TakesFront : Option (List ℕ) → Option (List ℕ) → Type 0
 TakesFront before now = (bytes : List ℕ) × (before ≡ prepend_known bytes now)

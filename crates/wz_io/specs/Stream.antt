@@ -3,7 +3,7 @@
 use Rattle.std.specs.Prelude.{◌≡◌, Result, Ok, Err, ℕ, true, false, List, [], Option, None, Some, Vec}
 use Rattle.std.specs.declared.alloc.Global.{Global}
 use Rattle.std.specs.FinMap.{insert}
-use Rattle.wz_io.specs.World.{Told, Name, Standard, File, Current, Contents, appended}
+use Rattle.wz_io.specs.World.{Told, Name, Standard, File, Current, Contents, with_more_output}
 use Rattle.wz_io.specs.Calls.{current_name}
 use Rattle.wz_io.specs.Names.{owned_name}
 use Rattle.wz_io.specs.Memory.{contents}
@@ -48,7 +48,7 @@ memory_told stdin stdout entries last =
 
 -- once a piece was added to what is open, or wasn't
 abbrev pub told_after_add : {T E : Type 0} → Told → Name → List ℕ → Result T E → Told
-told_after_add t name piece (Ok _) = appended t name piece
+told_after_add t name piece (Ok _) = with_more_output t name piece
 told_after_add t name piece (Err _) = t
 
 -- a piece was added, whatever else stands there

@@ -51,12 +51,12 @@ pub record Said : Type 0 where
   pub text : Option (List ℕ)
 
 -- nothing was opened yet, and nothing failed
-abbrev pub unopened : Told → Option (List ℕ) → World
-unopened told left = record { faults = 0; current = None; told = told; left = left; reads = 0 }
+abbrev pub world_at_start : Told → Option (List ℕ) → World
+world_at_start told left = record { faults = 0; current = None; told = told; left = left; reads = 0 }
 
 -- nothing failed yet
-abbrev pub unused : Option (List ℕ) → Said
-unused text = record { faults = 0; text = text }
+abbrev pub said_at_start : Option (List ℕ) → Said
+said_at_start text = record { faults = 0; text = text }
 
 -- the count rose, or stands at its last value
 abbrev pub Rose : ℕ → ℕ → Type 0
@@ -80,20 +80,20 @@ IsThere t Standard = ⊤
 IsThere t (File path) = IfSome t.files (λ files. IsSome (get files path))
 
 -- with an empty file of that name; the standard output keeps what it holds
-abbrev pub emptied : Told → Name → Told
-emptied t Standard = t
-emptied t (File path) = record t { files = option_map (λ files. insert files path []) t.files }
+abbrev pub with_empty_output : Told → Name → Told
+with_empty_output t Standard = t
+with_empty_output t (File path) = record t { files = option_map (λ files. insert files path []) t.files }
 
 -- with these bytes added to that output
-abbrev pub appended : Told → Name → List ℕ → Told
-appended t Standard bytes = record t { stdout = append_known t.stdout bytes }
-appended t (File path) bytes =
+abbrev pub with_more_output : Told → Name → List ℕ → Told
+with_more_output t Standard bytes = record t { stdout = append_known t.stdout bytes }
+with_more_output t (File path) bytes =
     record t { files = option_map (λ files. insert files path (unwrap_or (get files path) [] ++ bytes)) t.files }
 
 -- with these bytes in that output: a file holds them alone, the standard output has them at its end
-abbrev pub written : Told → Name → List ℕ → Told
-written t Standard bytes = record t { stdout = append_known t.stdout bytes }
-written t (File path) bytes = record t { files = option_map (λ files. insert files path bytes) t.files }
+abbrev pub with_output : Told → Name → List ℕ → Told
+with_output t Standard bytes = record t { stdout = append_known t.stdout bytes }
+with_output t (File path) bytes = record t { files = option_map (λ files. insert files path bytes) t.files }
 
 -- the input or output of that name failed: in this call the count rose, and at its end
 -- this name is the one on that side, and has failed

@@ -4,11 +4,11 @@
 ghost use Rattle.std.specs.Prelude.{◌≡◌, ◌≤◌, ◌<◌, length, min, vec_len};
 
 use crate::memory::{Entry, take_some};
-use crate::names::copied;
+use crate::names::copy_name;
 use crate::place::{count_fault, put};
 use crate::plan::{CallKind, Failure, count_call};
 use crate::stream::{
-    Stream, add, copied_input, find_any, made, put_file, set_closed, set_failed, settle,
+    Stream, add, copy_input, find_any, make_output, put_file, set_closed, set_failed, settle,
 };
 use crate::{Failed, FileName, Files, OpenFault};
 use std::alloc::{AllocError, Global};
@@ -39,14 +39,14 @@ pub struct MemFiles {
 impl MemFiles {
     ghost use Rattle.std.specs.Prelude.{OnOk, OnErr, Some, []};
     ghost use Rattle.std.specs.Option.{option_copied};
-    ghost use Rattle.wz_io.specs.World.{World, File, input_of, unopened};
+    ghost use Rattle.wz_io.specs.World.{World, File, input_of, world_at_start};
     ghost use Rattle.wz_io.specs.Plan.{with_failure_at};
     ghost use Rattle.wz_io.specs.MemFiles.{mem_world, mem_chunk, mem_plan, told_at_start, with_file};
 
     /// No files, this standard input, and no failure listed.
     pub fn new(alloc: Global, stdin: Vec<u8>, chunk: usize) -> MemFiles
         requires chunk { 0 < chunk }
-        ensures world { mem_world result ≡ unopened (told_at_start stdin.items) (Some []) }
+        ensures world { mem_world result ≡ world_at_start (told_at_start stdin.items) (Some []) }
         ensures chunk { mem_chunk result ≡ chunk }
         ensures plan { mem_plan result ≡ [] }
     {
@@ -85,7 +85,8 @@ impl MemFiles {
     /// The nth call of that kind from here on is to fail, counted from 1.
     pub fn fail(&mut self, kind: CallKind, nth: u32) -> Result<(), AllocError>
         requires nth { 0 < nth }
-        ensures ok { OnOk result (mem_plan self.new ≡ with_failure_at (mem_plan self.old) kind nth) }
+        ensures ok { OnOk result
+            (mem_plan self.new ≡ with_failure_at (mem_plan self.old) kind nth) }
         ensures err { OnErr result (mem_plan self.new ≡ mem_plan self.old) }
         ensures world { mem_world self.new ≡ mem_world self.old }
         ensures chunk { mem_chunk self.new ≡ mem_chunk self.old }
@@ -129,10 +130,10 @@ impl Files for MemFiles {
             ≡ after_opening (mem_plan self.old) CallKind.OpenInput result }
         ensures chunk { mem_chunk self.new ≡ mem_chunk self.old }
     {
-        let Ok(copy) = copied(self.alloc, name) else {
+        let Ok(copy) = copy_name(self.alloc, name) else {
             return Err(OpenFault::NoMemory);
         };
-        let Ok(found) = copied_input(self.alloc, &self.stdin, &self.entries, &self.stream, &name)
+        let Ok(found) = copy_input(self.alloc, &self.stdin, &self.entries, &self.stream, &name)
         else {
             return Err(OpenFault::NoMemory);
         };
@@ -193,13 +194,14 @@ impl Files for MemFiles {
     }
 
     fn create(&mut self, name: FileName<'_>) -> Result<(), OpenFault>
-        ensures did { Creates (name_of name.entry) (mem_world self.old) (mem_world self.new) result }
+        ensures did { Creates (name_of name.entry)
+            (mem_world self.old) (mem_world self.new) result }
         ensures fails { FailsWhere (is_listed (mem_plan self.old) CallKind.Create) result }
         ensures counted { mem_plan self.new
             ≡ after_opening (mem_plan self.old) CallKind.Create result }
         ensures chunk { mem_chunk self.new ≡ mem_chunk self.old }
     {
-        let Ok(copy) = copied(self.alloc, name) else {
+        let Ok(copy) = copy_name(self.alloc, name) else {
             return Err(OpenFault::NoMemory);
         };
         if settle(&mut self.entries, &mut self.stream).is_err() {
@@ -210,7 +212,7 @@ impl Files for MemFiles {
             count_fault(&mut self.faults);
             return Err(OpenFault::Failed);
         }
-        put(&mut self.stream, made(self.alloc, copy));
+        put(&mut self.stream, make_output(self.alloc, copy));
         Ok(())
     }
 

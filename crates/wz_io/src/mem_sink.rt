@@ -11,25 +11,25 @@ use std::alloc::Global;
 pub struct MemSink {
     text: Vec<u8>,
     // How many more puts go through; None where all do.
-    spared: Option<u32>,
+    puts_left: Option<u32>,
     faults: u64,
 }
 
 impl MemSink {
     ghost use Rattle.std.specs.Prelude.{Some, []};
     ghost use Rattle.std.specs.Option.{ForSome, option_map};
-    ghost use Rattle.wz_io.specs.World.{unused};
-    ghost use Rattle.wz_io.specs.MemSink.{mem_said, mem_spared};
+    ghost use Rattle.wz_io.specs.World.{said_at_start};
+    ghost use Rattle.wz_io.specs.MemSink.{mem_said, mem_puts_left};
 
     /// Fails from that put on, counted from 1.
     pub fn new(alloc: Global, fails_from: Option<u32>) -> MemSink
         requires first { ForSome fails_from (λ first. 0 < first) }
-        ensures said { mem_said result ≡ unused (Some []) }
-        ensures spared { mem_spared result ≡ option_map (λ first. first - 1) fails_from }
+        ensures said { mem_said result ≡ said_at_start (Some []) }
+        ensures puts_left { mem_puts_left result ≡ option_map (λ first. first - 1) fails_from }
     {
         MemSink {
             text: Vec::new(alloc),
-            spared: fails_from.map(|first| first.saturating_sub(1)),
+            puts_left: fails_from.map(|first| first.saturating_sub(1)),
             faults: 0,
         }
     }
@@ -47,7 +47,7 @@ impl Sink for MemSink {
     ghost use Rattle.std.specs.Option.{option_map};
     ghost use Rattle.wz_io.specs.World.{Said};
     ghost use Rattle.wz_io.specs.Calls.{Puts};
-    ghost use Rattle.wz_io.specs.MemSink.{mem_said, mem_spared};
+    ghost use Rattle.wz_io.specs.MemSink.{mem_said, mem_puts_left};
 
     ghost said = { mem_said };
 
@@ -55,16 +55,17 @@ impl Sink for MemSink {
         requires some { 0 < length piece.now }
         ensures did { Puts (mem_said self.old) (mem_said self.new) piece.now result }
         // Any other failure is that of a put that finds no memory.
-        ensures fails { mem_spared self.old ≡ Some 0 → IsErr result }
+        ensures fails { mem_puts_left self.old ≡ Some 0 → IsErr result }
         ensures whole { IfOk result (λ n. n ≡ length piece.now) }
-        ensures counted { mem_spared self.new ≡ option_map (λ n. n - 1) (mem_spared self.old) }
+        ensures counted { mem_puts_left self.new
+            ≡ option_map (λ n. n - 1) (mem_puts_left self.old) }
     {
-        match self.spared {
+        match self.puts_left {
             Some(0) => {
                 count_fault(&mut self.faults);
                 return Err(Failed);
             }
-            Some(spared) => self.spared = Some(spared - 1),
+            Some(puts) => self.puts_left = Some(puts - 1),
             None => {}
         }
         match self.text.extend_from_slice(piece) {

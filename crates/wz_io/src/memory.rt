@@ -33,8 +33,8 @@ pub fn put_entry(
     path: &[u8],
     bytes: Vec<u8>,
 ) -> Result<(), AllocError>
-    ensures ok { OnOk result
-        (contents entries.new.items ≡ map.insert (contents entries.old.items) path.now bytes.items) }
+    ensures ok { OnOk result (contents entries.new.items
+        ≡ map.insert (contents entries.old.items) path.now bytes.items) }
     ensures err { OnErr result (entries.new.items ≡ entries.old.items) }
 {
     let path = Vec::from_slice(alloc, path)?;

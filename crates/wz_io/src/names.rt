@@ -14,7 +14,8 @@ pub enum OwnedName {
     Path(Vec<u8>),
 }
 
-pub fn copied(alloc: Global, name: FileName<'_>) -> Result<OwnedName, AllocError>
+/// A name with its own copy of the path.
+pub fn copy_name(alloc: Global, name: FileName<'_>) -> Result<OwnedName, AllocError>
     ensures { IfOk result (λ copy. owned_name copy ≡ name_of name.entry) }
 {
     match name {

@@ -2,7 +2,7 @@
 
 ghost use Rattle.std.specs.Prelude.{◌≡◌, ◌≤◌, ◌<◌, length, IfOk};
 
-use crate::names::{OwnedName, copied};
+use crate::names::{OwnedName, copy_name};
 use crate::place::{count_fault, put};
 use crate::{Failed, FileName, Files, OpenFault};
 use std::alloc::AllocGlobal;
@@ -41,11 +41,11 @@ pub struct OsFiles<'r, R: rt::Files + Input> {
 
 impl<'r, R: rt::Files + Input> OsFiles<'r, R> {
     ghost use Rattle.std.specs.Prelude.{None};
-    ghost use Rattle.wz_io.specs.World.{unopened};
-    ghost use Rattle.wz_io.specs.OsFiles.{os_world, untold};
+    ghost use Rattle.wz_io.specs.World.{world_at_start};
+    ghost use Rattle.wz_io.specs.OsFiles.{os_world, nothing_told};
 
     pub fn new(rt: &'r R) -> OsFiles<'r, R>
-        ensures unopened { os_world result ≡ unopened untold None }
+        ensures world { os_world result ≡ world_at_start nothing_told None }
     {
         OsFiles {
             rt,
@@ -105,11 +105,11 @@ fn write_to<R: Print, F: Write>(
     ensures bound { IfOk result (λ count. count ≤ length piece.now) }
     ensures some { IfOk result (λ count. 0 < count) }
 {
-    let written = match target {
+    let count = match target {
         Target::Stdout => rt.write_some(piece),
         Target::File(file) => file.write(piece),
     };
-    match written {
+    match count {
         Ok(0) | Err(_) => Err(Failed),
         Ok(count) => Ok(count),
     }
@@ -121,7 +121,7 @@ impl<'r, R: rt::Files + Input + Print + AllocGlobal> Files for OsFiles<'r, R> {
     ghost world = { λ files. os_world files };
 
     fn open_input(&mut self, name: FileName<'_>) -> Result<(), OpenFault> {
-        let Ok(copy) = copied(self.rt.alloc(), name) else {
+        let Ok(copy) = copy_name(self.rt.alloc(), name) else {
             return Err(OpenFault::NoMemory);
         };
         put(&mut self.opened, Opened::Input(None));
@@ -155,7 +155,7 @@ impl<'r, R: rt::Files + Input + Print + AllocGlobal> Files for OsFiles<'r, R> {
     }
 
     fn create(&mut self, name: FileName<'_>) -> Result<(), OpenFault> {
-        let Ok(copy) = copied(self.rt.alloc(), name) else {
+        let Ok(copy) = copy_name(self.rt.alloc(), name) else {
             return Err(OpenFault::NoMemory);
         };
         put(&mut self.opened, Opened::Output(None));

@@ -1,7 +1,7 @@
 //! Which later calls of the files in memory are to fail.
 
 ghost use Rattle.std.specs.Prelude.{◌≡◌};
-ghost use Rattle.wz_io.specs.Plan.{is_listed, counted_failure, after_call};
+ghost use Rattle.wz_io.specs.Plan.{is_listed, failure_after_call, after_call};
 
 /// The kinds of calls of `Files`.
 #[derive(Clone, Copy, Debug, PartialEq, Eq)]
@@ -13,16 +13,16 @@ pub enum CallKind {
     Close,
 }
 
-/// A call that is to fail. `calls` counts the calls of its kind up to and with it, and is 0 once it was
-/// made.
+/// A call that is to fail. `calls` counts the calls of its kind up to and with it, and is 0 once
+/// it was made.
 #[derive(Clone, Copy, Debug)]
 pub struct Failure {
     pub kind: CallKind,
     pub calls: u32,
 }
 
-fn counted(failure: Failure, kind: CallKind) -> Failure
-    ensures { result ≡ counted_failure kind failure }
+fn count_failure(failure: Failure, kind: CallKind) -> Failure
+    ensures { result ≡ failure_after_call kind failure }
 {
     if failure.kind == kind {
         Failure {
@@ -38,7 +38,7 @@ fn count_down(plan: &mut [Failure], kind: CallKind)
     ensures { plan.new ≡ after_call plan.old kind }
 {
     for failure in plan.iter_mut() {
-        *failure = counted(*failure, kind);
+        *failure = count_failure(*failure, kind);
     }
 }
 

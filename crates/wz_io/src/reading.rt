@@ -2,13 +2,14 @@
 
 ghost use Rattle.std.specs.Prelude.{◌≡◌, ◌+◌, ◌≤◌, ◌<◌, [], OnOk, OnErr, IfOk, IfSome, IsErrOf, length};
 ghost use Rattle.wz_io.specs.World.{World, IsOpen, Rose};
-ghost use Rattle.wz_io.specs.Reading.{TakesFront, TakesSome, current_after_read_all};
+ghost use Rattle.wz_io.specs.Reading.{TakesFront, TakesSome, current_after_read_all, input_limit};
 ghost use Rattle.wz_io.specs.declared.files.Side.TheVariants.{Input};
 
 use crate::Files;
 use std::alloc::Global;
 
-/// The longest input that this tool reads, in bytes.
+/// The longest input that this tool reads, in bytes: `laws::limit_is_named` ties it to the number
+/// that contracts cite.
 pub const INPUT_LIMIT: usize = 33_554_432;
 
 // The longest piece that one read asks for.
@@ -28,7 +29,7 @@ pub enum ReadAll {
 /// where the input has more than `limit` bytes left and no read fails.
 pub fn read_all<F: Files>(alloc: Global, files: &mut F, limit: usize) -> Result<Vec<u8>, ReadAll>
     requires opened { IsOpen Input (F.world files.old) }
-    requires limit { limit ≤ INPUT_LIMIT }
+    requires limit { limit ≤ input_limit }
 
     ensures all { IfOk result (λ all. IfSome (F.world files.old).left (λ left. all.items ≡ left)) }
     ensures within { IfOk result (λ all. length all.items ≤ limit) }

@@ -14,11 +14,11 @@ pub struct StdSink<'r, R: Print> {
 
 impl<'r, R: Print> StdSink<'r, R> {
     ghost use Rattle.std.specs.Prelude.{None};
-    ghost use Rattle.wz_io.specs.World.{unused};
+    ghost use Rattle.wz_io.specs.World.{said_at_start};
     ghost use Rattle.wz_io.specs.StdSink.{std_said};
 
     pub fn new(rt: &'r R) -> StdSink<'r, R>
-        ensures unused { std_said result ≡ unused None }
+        ensures said { std_said result ≡ said_at_start None }
     {
         StdSink { rt, faults: 0 }
     }

@@ -100,7 +100,7 @@ pub fn set_closed(stream: &mut Stream)
 }
 
 /// An output of this name, open, which holds nothing yet.
-pub fn made(alloc: Global, name: OwnedName) -> Stream
+pub fn make_output(alloc: Global, name: OwnedName) -> Stream
     ensures { IsMade (owned_name name) result }
 {
     match name {
@@ -157,7 +157,7 @@ pub fn find_any<'a>(
 }
 
 /// The bytes of an input, copied; None where there is no such file.
-pub fn copied_input(
+pub fn copy_input(
     alloc: Global,
     stdin: &[u8],
     entries: &VecDeque<Entry>,
@@ -165,7 +165,8 @@ pub fn copied_input(
     name: &FileName<'_>,
 ) -> Result<Option<Vec<u8>>, AllocError>
     ensures { IfOk result (λ found. items_of found
-        ≡ input_of (memory_told stdin.now stdin.now entries.now.items stream.now) (name_of name.now)) }
+        ≡ input_of (memory_told stdin.now stdin.now entries.now.items stream.now)
+        (name_of name.now)) }
 {
     match name {
         FileName::Standard => Ok(Some(Vec::from_slice(alloc, stdin)?)),

@@ -1,12 +1,10 @@
 //! What no clause says: that calls succeed with memory at hand, and what real files give back.
 
-ghost use Rattle.std.specs.Prelude.{OnOk};
-ghost use Rattle.wz_io.specs.World.{World, IsOpen};
-ghost use Rattle.wz_io.specs.declared.files.Side.TheVariants.{Output};
+ghost use Rattle.std.specs.Prelude.{◌<◌};
 
 use crate::{
     CallKind, Failed, FileName, Files, MemFiles, MemSink, OpenFault, OsFiles, ReadAll, Sink,
-    StdSink, read_all,
+    StdSink, read_all, write_all,
 };
 use std::alloc::Global;
 use std::fs;
@@ -21,17 +19,6 @@ enum Ending {
     Create(OpenFault),
     Write,
     Close,
-}
-
-fn write_all<F: Files>(files: &mut F, bytes: &[u8]) -> Result<(), Failed>
-    requires opened { IsOpen Output (F.world files.old) }
-    ensures opened { OnOk result (IsOpen Output (F.world files.new)) }
-{
-    let mut at = 0;
-    while at < bytes.len() {
-        at += files.write(&bytes[at..])?;
-    }
-    Ok(())
 }
 
 fn copy<F: Files>(
@@ -51,9 +38,8 @@ fn copy<F: Files>(
     if let Err(fault) = files.create(to) {
         return Ending::Create(fault);
     }
-    match write_all(files, &bytes) {
-        Ok(()) => {}
-        Err(Failed) => return Ending::Write,
+    if write_all(files, &bytes).is_err() {
+        return Ending::Write;
     }
     match files.close() {
         Ok(()) => Ending::Done,
@@ -61,25 +47,32 @@ fn copy<F: Files>(
     }
 }
 
-// Copies eight bytes in pieces of three, by four reads, of which the last finds the end, and by three
-// writes. The nth call of that kind fails, and the output holds what the calls before it took.
+// The number of a call, counted from 1, as `MemFiles::fail` asks for.
+fn call_number(nth: u32) -> u32
+    ensures { 0 < result }
+{
+    nth.max(1)
+}
+
+// Copies eight bytes in pieces of three, by four reads, of which the last finds the end, and by
+// three writes. The nth call of that kind fails, and the output has what the calls before it took.
 fn ends_so(
     alloc: Global,
     kind: CallKind,
     nth: u32,
-    want: Ending,
-    held: Option<&[u8]>,
+    ending: Ending,
+    output: Option<&[u8]>,
 ) -> Result<bool, Fail> {
     let mut files = MemFiles::new(alloc, Vec::from_slice(alloc, b"abcdefgh")?, 3);
-    files.fail(kind, nth.max(1))?;
-    let ending = copy(
+    files.fail(kind, call_number(nth))?;
+    let copied = copy(
         alloc,
         &mut files,
         FileName::Standard,
         FileName::Path("out"),
         8,
     );
-    Ok(ending == want && files.file("out") == held)
+    Ok(copied == ending && files.file("out") == output)
 }
 
 #[test]
@@ -99,33 +92,33 @@ fn each_kind_of_call_fails_where_it_is_listed(rt: HostRuntime) -> Result<(), Fai
         (CallKind::Close, 1, Ending::Close, Some(b"abcdefgh")),
         (CallKind::Close, 2, Ending::Done, Some(b"abcdefgh")),
     ];
-    for (kind, nth, want, held) in table {
+    for (kind, nth, ending, output) in table {
         assert!(rt;
-            ends_so(rt.alloc(), kind, nth, want, held)?,
+            ends_so(rt.alloc(), kind, nth, ending, output)?,
             "{kind:?} {nth}"
         );
     }
     Ok(())
 }
 
-// A file that is put twice is there once, and can be read within a limit of its length. What goes to
-// the standard output comes behind what it holds.
+// A file that is put twice is there once, and can be read within a limit of its length. What goes
+// to the standard output comes behind what it holds.
 fn copies_so(
     files: &mut MemFiles,
     alloc: Global,
     from: &str,
     limit: u8,
-    want: Ending,
-    held: &[u8],
+    ending: Ending,
+    stdout: &[u8],
 ) -> bool {
-    let ending = copy(
+    let copied = copy(
         alloc,
         files,
         FileName::Path(from),
         FileName::Standard,
         limit,
     );
-    ending == want && files.stdout() == held
+    copied == ending && files.stdout() == stdout
 }
 
 #[test]
@@ -140,9 +133,9 @@ fn files_in_memory_hold_what_they_are_given(rt: HostRuntime) -> Result<(), Fail>
         ("no", 5, Ending::OpenInput(OpenFault::Failed), b"newer"),
         ("in", 6, Ending::Done, b"newernewer"),
     ];
-    for (from, limit, want, held) in table {
+    for (from, limit, ending, stdout) in table {
         assert!(rt;
-            copies_so(&mut files, alloc, from, limit, want, held),
+            copies_so(&mut files, alloc, from, limit, ending, stdout),
             "{from} {limit}"
         );
     }
@@ -169,14 +162,14 @@ fn sinks_in_memory_fail_from_a_given_put_on(rt: HostRuntime) {
 fn copies_back(rt: &HostRuntime) -> bool {
     let alloc = rt.alloc();
     let mut files = OsFiles::new(rt);
-    let (written, copied) = (FileName::Path("written"), FileName::Path("copied"));
+    let (first, second) = (FileName::Path("first"), FileName::Path("second"));
     let missing = Ending::OpenInput(OpenFault::Failed);
-    copy(alloc, &mut files, written, copied, 8) == missing
-        && files.create(written).is_ok()
+    copy(alloc, &mut files, first, second, 8) == missing
+        && files.create(first).is_ok()
         && write_all(&mut files, b"five.").is_ok()
-        && copy(alloc, &mut files, written, copied, 5) == Ending::Done
-        && copy(alloc, &mut files, copied, written, 4) == Ending::Read(ReadAll::TooLong)
-        && read_back(alloc, &mut files, copied)
+        && copy(alloc, &mut files, first, second, 5) == Ending::Done
+        && copy(alloc, &mut files, second, first, 4) == Ending::Read(ReadAll::TooLong)
+        && read_back(alloc, &mut files, second)
 }
 
 fn read_back<F: Files>(alloc: Global, files: &mut F, name: FileName<'_>) -> bool {
@@ -192,8 +185,8 @@ fn read_back<F: Files>(alloc: Global, files: &mut F, name: FileName<'_>) -> bool
 #[test]
 fn real_files_give_back_what_is_written(rt: HostRuntime) -> Result<(), Fail> {
     assert!(rt; copies_back(&rt));
-    fs::remove_file(&rt, "written")?;
-    fs::remove_file(&rt, "copied")?;
+    fs::remove_file(&rt, "first")?;
+    fs::remove_file(&rt, "second")?;
     let stderr = rt.stderr();
     let mut sink = StdSink::new(&stderr);
     assert_eq!(rt; sink.put(b".\n"), Ok(2));

@@ -12,7 +12,7 @@ use Rattle.std.proofs.lemmas.List.Sums.{count_by_more_yes, count_by_more_no, cou
 use Rattle.std.proofs.lemmas.List.Elements.{All-cons}
 use Rattle.std.proofs.lemmas.List.Sorted.{sorted_far, sum_by-IsPermutation}
 use Rattle.wz_plan.specs.declared.runs.Run.{Run}
-use Rattle.wz_plan.specs.Ranges.{end_of, gap_between, RisesFrom, EndsBy, gaps, with_first, joined}
+use Rattle.wz_plan.specs.Ranges.{end_of, gap_between, RisesFrom, EndsBy, gaps, with_first, with_gaps_merged}
 use Rattle.wz_plan.specs.Plan.{goes_before, rank, is_cut, chosen}
 use Rattle.wz_plan.proofs.JoinLemmas.{rises-joined, rises-joined_alone}
 
@@ -143,11 +143,11 @@ ends_before apart low (x ∷ xs) range zs rises =
 
 -- what is merged of the first runs ends before the next
 pub joined_ends : (cut : Run → Bool) (xs : List Run) (i : ℕ) (d : Run) → RisesFrom 0 0 xs → i < length xs
-    → EndsBy (get_or xs i d).at (joined cut (take i xs))
+    → EndsBy (get_or xs i d).at (with_gaps_merged cut (take i xs))
 joined_ends cut xs i d rises h =
     let split : take i xs ++ get_or xs i d ∷ drop (i + 1) xs ≡ xs =
     ap (λ l. take i xs ++ l) (sym (drop_more xs i d h)) ∙ take-append-drop i xs in
-    ends_before 0 0 (joined cut (take i xs)) (get_or xs i d) (drop (i + 1) xs)
+    ends_before 0 0 (with_gaps_merged cut (take i xs)) (get_or xs i d) (drop (i + 1) xs)
     (rises-joined 0 0 cut (take i xs) (get_or xs i d ∷ drop (i + 1) xs) (subst (RisesFrom 0 0) (sym split) rises))
 
 -- tests that agree on long gaps cut the same ones of ranges that are apart
@@ -157,14 +157,14 @@ joined-same_first cut other x [] same rises = refl
 joined-same_first cut other x (y ∷ ys) same rises = rw (same (gap_between x y) (omega arith))
 
 pub joined-same : (cut other : Run → Bool) (low : ℕ) (xs : List Run)
-    → ((gap : Run) → 8 < gap.len → cut gap ≡ other gap) → RisesFrom 9 low xs → joined cut xs ≡ joined other xs
+    → ((gap : Run) → 8 < gap.len → cut gap ≡ other gap) → RisesFrom 9 low xs → with_gaps_merged cut xs ≡ with_gaps_merged other xs
 joined-same cut other low [] same rises = refl
 joined-same cut other low (x ∷ xs) same rises =
     ap (with_first cut x) (joined-same cut other (end_of x + 9) xs same rises.1)
-    ∙ joined-same_first cut other x (joined other xs) same (rises-joined_alone 9 (end_of x + 9) other xs rises.1)
+    ∙ joined-same_first cut other x (with_gaps_merged other xs) same (rises-joined_alone 9 (end_of x + 9) other xs rises.1)
 
 pub chosen_is : (cut : Run → Bool) (xs : List Run) (limit : ℕ) → RisesFrom 9 0 xs
-    → ((gap : Run) → cut gap ≡ nat_lt (rank (gaps xs) gap) (limit - 1)) → joined cut xs ≡ chosen xs limit
+    → ((gap : Run) → cut gap ≡ nat_lt (rank (gaps xs) gap) (limit - 1)) → with_gaps_merged cut xs ≡ chosen xs limit
 unfolding chosen
 chosen_is cut xs limit rises same =
     joined-same cut (is_cut limit (gaps xs)) 0 xs

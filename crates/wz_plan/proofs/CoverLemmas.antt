@@ -7,8 +7,8 @@ use Rattle.std.proofs.lemmas.Bool.Decides.{nat_tests}
 use Rattle.std.proofs.lemmas.List.{get_or_at, length_push}
 use Rattle.std.proofs.lemmas.List.Elements.{All-nil, All-cons, All-head, All-tail}
 use Rattle.wz_plan.specs.declared.runs.Run.{Run}
-use Rattle.wz_plan.specs.Ranges.{end_of, gap_between, hull, RisesFrom, EndsBy, gaps, with_first, joined}
-use Rattle.wz_plan.specs.Plan.{nonzero_places, runs_at, runs, is_cut, chosen, plan, IsHeld}
+use Rattle.wz_plan.specs.Ranges.{end_of, gap_between, hull, RisesFrom, EndsBy, gaps, with_first, with_gaps_merged}
+use Rattle.wz_plan.specs.Plan.{nonzero_places, runs_at, runs, is_cut, chosen, plan, IsInOne}
 use Rattle.wz_plan.specs.Laws.{IsTight, PlanCovers, PlanRises, PlanIsWithin, PlanIsTight, IsNonzero, RunsCover, RunsRise, RunsAreNonzero}
 use Rattle.wz_plan.proofs.JoinLemmas.{end-hull, rises-joined_alone, joined-joined_alone}
 use Rattle.wz_plan.proofs.GapLemmas.{is_cut_long}
@@ -31,23 +31,23 @@ all-with_first P cut x (y ∷ ys) joins rises all = by_gap (cut (gap_between x y
 
 pub all-joined : (P : Run → Type 0) (cut : Run → Bool) (low : ℕ) (xs : List Run)
     → ((lower upper : Run) → cut (gap_between lower upper) ≡ false → end_of lower ≤ upper.at → P lower → P upper → P (hull lower upper))
-    → RisesFrom 0 low xs → All P xs → All P (joined cut xs)
+    → RisesFrom 0 low xs → All P xs → All P (with_gaps_merged cut xs)
 all-joined P cut low [] joins rises all = all
 all-joined P cut low (x ∷ xs) joins rises all =
-    all-with_first P cut x (joined cut xs) joins (rises-joined_alone 0 (end_of x + 0) cut xs rises.1)
-    (All-cons P x (joined cut xs) (All-head P x xs all) (all-joined P cut (end_of x + 0) xs joins rises.1 (All-tail P x xs all)))
+    all-with_first P cut x (with_gaps_merged cut xs) joins (rises-joined_alone 0 (end_of x + 0) cut xs rises.1)
+    (All-cons P x (with_gaps_merged cut xs) (All-head P x xs all) (all-joined P cut (end_of x + 0) xs joins rises.1 (All-tail P x xs all)))
 
-pub ends-joined : (high : ℕ) (cut : Run → Bool) (low : ℕ) (xs : List Run) → RisesFrom 0 low xs → EndsBy high xs → EndsBy high (joined cut xs)
+pub ends-joined : (high : ℕ) (cut : Run → Bool) (low : ℕ) (xs : List Run) → RisesFrom 0 low xs → EndsBy high xs → EndsBy high (with_gaps_merged cut xs)
 ends-joined high cut low xs rises ends =
     all-joined (λ range. end_of range ≤ high) cut low xs
     (λ lower upper merge above first second. let size = end-hull lower upper (omega arith) in omega arith) rises ends
 
 -- a place that ranges hold is held by what they are merged to
 held-with_first : (high : ℕ) (cut : Run → Bool) (x : Run) (ys : List Run) (place : ℕ)
-    → RisesFrom 0 (end_of x + 0) ys → EndsBy high ys → IsHeld high (x ∷ ys) place → IsHeld high (with_first cut x ys) place
+    → RisesFrom 0 (end_of x + 0) ys → EndsBy high ys → IsInOne high (x ∷ ys) place → IsInOne high (with_first cut x ys) place
 held-with_first high cut x [] place rises ends held = held
 held-with_first high cut x (y ∷ ys) place rises ends held =
-    elim (cut (gap_between x y)) as (λ b. IsHeld high (if b then x ∷ y ∷ ys else hull x y ∷ ys) place) [
+    elim (cut (gap_between x y)) as (λ b. IsInOne high (if b then x ∷ y ∷ ys else hull x y ∷ ys) place) [
       | true ↦ held
       | false ↦
           let upper : end_of y ≤ high = All-head (λ range. end_of range ≤ high) y ys ends in
@@ -61,26 +61,26 @@ held-with_first high cut x (y ∷ ys) place rises ends held =
     ]
 
 pub held-joined : (high : ℕ) (cut : Run → Bool) (low : ℕ) (xs : List Run) (place : ℕ)
-    → RisesFrom 0 low xs → EndsBy high xs → IsHeld high xs place → IsHeld high (joined cut xs) place
+    → RisesFrom 0 low xs → EndsBy high xs → IsInOne high xs place → IsInOne high (with_gaps_merged cut xs) place
 held-joined high cut low [] place rises ends held = held
 held-joined high cut low (x ∷ xs) place rises ends held =
     let behind = All-tail (λ range. end_of range ≤ high) x xs ends in
-    held-with_first high cut x (joined cut xs) place (rises-joined_alone 0 (end_of x + 0) cut xs rises.1)
+    held-with_first high cut x (with_gaps_merged cut xs) place (rises-joined_alone 0 (end_of x + 0) cut xs rises.1)
     (ends-joined high cut (end_of x + 0) xs rises.1 behind)
     (⊎_elim (λ here. inl here) (λ later. inr (held-joined high cut (end_of x + 0) xs place rises.1 behind later)) held)
 
 -- each non-zero place is held
 held_places : (high at : ℕ) (bytes : List ℕ) (place : ℕ) → at + length bytes ≤ high
-    → (get_or bytes place 0 ≡ 0 → ⊥) → IsHeld high (nonzero_places at bytes) (at + place)
+    → (get_or bytes place 0 ≡ 0 → ⊥) → IsInOne high (nonzero_places at bytes) (at + place)
 held_places high at [] place h nonzero = absurd (nonzero refl)
 held_places high at (zero ∷ bytes) zero h nonzero = absurd (nonzero refl)
 held_places high at (zero ∷ bytes) (suc place) h nonzero =
     let e : at + 1 + place ≡ at + suc place = omega arith in
-    subst (IsHeld high (nonzero_places (at + 1) bytes)) e (held_places high (at + 1) bytes place (omega arith) nonzero)
+    subst (IsInOne high (nonzero_places (at + 1) bytes)) e (held_places high (at + 1) bytes place (omega arith) nonzero)
 held_places high at (suc byte ∷ bytes) zero h nonzero = inl ((omega arith, omega arith), omega arith)
 held_places high at (suc byte ∷ bytes) (suc place) h nonzero =
     let e : at + 1 + place ≡ at + suc place = omega arith in
-    inr (subst (IsHeld high (nonzero_places (at + 1) bytes)) e (held_places high (at + 1) bytes place (omega arith) nonzero))
+    inr (subst (IsInOne high (nonzero_places (at + 1) bytes)) e (held_places high (at + 1) bytes place (omega arith) nonzero))
 
 -- each place's range is tight
 tight_place : (front : List ℕ) (byte : ℕ) (rest : List ℕ) (at : ℕ) → length front ≡ at
@@ -119,7 +119,7 @@ tight-hull bytes lower upper above one two =
     }
 
 -- the plan is the non-zero places, merged at all gaps that aren't cut
-plan-places : (bytes : List ℕ) (limit : ℕ) → plan bytes limit ≡ joined (is_cut limit (gaps (runs bytes))) (nonzero_places 0 bytes)
+plan-places : (bytes : List ℕ) (limit : ℕ) → plan bytes limit ≡ with_gaps_merged (is_cut limit (gaps (runs bytes))) (nonzero_places 0 bytes)
 unfolding plan chosen runs runs_at
 plan-places bytes limit =
     joined-joined_alone (is_cut limit (gaps (runs bytes))) (λ gap. nat_lt 0 gap.len) 0 (nonzero_places 0 bytes)
@@ -130,15 +130,15 @@ ends_within bytes = subst (λ n. EndsBy n (nonzero_places 0 bytes)) (zero-add (l
 
 pub plan_covers : PlanCovers
 plan_covers bytes limit place nonzero =
-    subst (λ ranges. IsHeld (length bytes) ranges place) (sym (plan-places bytes limit))
+    subst (λ ranges. IsInOne (length bytes) ranges place) (sym (plan-places bytes limit))
     (held-joined (length bytes) (is_cut limit (gaps (runs bytes))) 0 (nonzero_places 0 bytes) place (rises_places 0 bytes) (ends_within bytes)
-    (subst (IsHeld (length bytes) (nonzero_places 0 bytes)) (zero-add place) (held_places (length bytes) 0 bytes place (omega arith) nonzero)))
+    (subst (IsInOne (length bytes) (nonzero_places 0 bytes)) (zero-add place) (held_places (length bytes) 0 bytes place (omega arith) nonzero)))
 
 pub runs_cover : RunsCover
 unfolding runs runs_at
 runs_cover bytes place nonzero =
     held-joined (length bytes) (λ gap. nat_lt 0 gap.len) 0 (nonzero_places 0 bytes) place (rises_places 0 bytes) (ends_within bytes)
-    (subst (IsHeld (length bytes) (nonzero_places 0 bytes)) (zero-add place) (held_places (length bytes) 0 bytes place (omega arith) nonzero))
+    (subst (IsInOne (length bytes) (nonzero_places 0 bytes)) (zero-add place) (held_places (length bytes) 0 bytes place (omega arith) nonzero))
 
 pub plan_rises : PlanRises
 plan_rises bytes limit =
@@ -153,7 +153,8 @@ plan_is_within bytes limit =
 pub plan_is_tight : PlanIsTight
 plan_is_tight bytes limit =
     subst (All (IsTight bytes)) (sym (plan-places bytes limit))
-    (all-joined (IsTight bytes) (is_cut limit (gaps (runs bytes))) 0 (nonzero_places 0 bytes) (λ lower upper merge above one two. tight-hull bytes lower upper above one two) (rises_places 0 bytes)
+    (all-joined (IsTight bytes) (is_cut limit (gaps (runs bytes))) 0 (nonzero_places 0 bytes)
+    (λ lower upper merge above one two. tight-hull bytes lower upper above one two) (rises_places 0 bytes)
     (tight_places [] bytes 0 refl))
 
 -- the runs consist of non-zero bytes alone, and zeros lie between them

@@ -6,7 +6,7 @@ use Rattle.std.proofs.lemmas.List.Elements.{All-nil, All-cons, All-head, All-tai
 use Rattle.std.proofs.lemmas.List.Kept.{AllPairs-cons, AllPairs-filter}
 use Rattle.std.proofs.lemmas.List.Sums.{sum_by-cons}
 use Rattle.wz_plan.specs.declared.runs.Run.{Run}
-use Rattle.wz_plan.specs.Ranges.{end_of, gap_between, RisesFrom, gaps, joined}
+use Rattle.wz_plan.specs.Ranges.{end_of, gap_between, RisesFrom, gaps, with_gaps_merged}
 use Rattle.wz_plan.specs.Plan.{goes_before, rank, is_cut, chosen, plan, runs}
 use Rattle.wz_plan.specs.Laws.{PlanIsFew}
 use Rattle.wz_plan.proofs.GapLemmas.{gaps-joined}
@@ -147,7 +147,7 @@ unfolding chosen
 chosen_is_few xs limit some rises =
     let cut = gaps-joined (is_cut limit (gaps xs)) 0 xs (rises_weaker 1 0 0 xs (omega arith) rises) in
     let few = few_first (gaps xs) (is_cut limit (gaps xs)) (limit - 1) (gaps_apart 0 xs rises) (is_cut_first limit (gaps xs)) in
-    omega (arith, length-gaps (joined (is_cut limit (gaps xs)) xs), ap length cut)
+    omega (arith, length-gaps (with_gaps_merged (is_cut limit (gaps xs)) xs), ap length cut)
 
 pub plan_is_few : PlanIsFew
 unfolding plan

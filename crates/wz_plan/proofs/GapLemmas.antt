@@ -6,7 +6,7 @@ use Rattle.std.proofs.lemmas.Bool.{false≢true}
 use Rattle.std.proofs.lemmas.List.Sums.{sum_by-cons}
 use Rattle.std.proofs.lemmas.Bool.Decides.{nat_tests}
 use Rattle.wz_plan.specs.declared.runs.Run.{Run}
-use Rattle.wz_plan.specs.Ranges.{end_of, gap_between, hull, RisesFrom, gaps, with_first, joined}
+use Rattle.wz_plan.specs.Ranges.{end_of, gap_between, hull, RisesFrom, gaps, with_first, with_gaps_merged}
 use Rattle.wz_plan.specs.Plan.{goes_before, is_cut, chosen}
 use Rattle.wz_plan.specs.Scanned.{merged}
 use Rattle.wz_plan.proofs.JoinLemmas.{gap-hull, rises-joined_alone, joined-joined_alone}
@@ -38,11 +38,11 @@ gaps-second cut x y (z ∷ zs) h rest = by_gap (cut (gap_between y z)) refl
     by_gap false e = rw e (gaps-first cut x (hull y z) zs (omega arith))
 
 -- of the gaps, a merge leaves those that are cut
-pub gaps-joined : (cut : Run → Bool) (low : ℕ) (xs : List Run) → RisesFrom 0 low xs → gaps (joined cut xs) ≡ filter cut (gaps xs)
+pub gaps-joined : (cut : Run → Bool) (low : ℕ) (xs : List Run) → RisesFrom 0 low xs → gaps (with_gaps_merged cut xs) ≡ filter cut (gaps xs)
 gaps-joined cut low [] h = refl
 gaps-joined cut low (x ∷ []) h = refl
 gaps-joined cut low (x ∷ y ∷ ys) h =
-    gaps-second cut x y (joined cut ys) (omega arith) (rises-joined_alone 0 (end_of y + 0) cut ys h.1.1)
+    gaps-second cut x y (with_gaps_merged cut ys) (omega arith) (rises-joined_alone 0 (end_of y + 0) cut ys h.1.1)
     ∙ ap (λ g. cond (cut (gap_between x y)) (gap_between x y ∷ g) g) (gaps-joined cut (end_of x + 0) (y ∷ ys) h.1)
 
 -- a count among the elements that pass a test, where what is counted passes it
@@ -86,6 +86,6 @@ is_cut_long limit all gap e = and_first (nat_lt 8 gap.len) _ e
 pub chosen-merged : (low : ℕ) (ranges : List Run) (limit : ℕ) → RisesFrom 0 low ranges → chosen (merged ranges) limit ≡ chosen ranges limit
 unfolding chosen merged
 chosen-merged low ranges limit h =
-    ap (λ g. joined (is_cut limit g) (merged ranges)) (gaps-joined (λ gap. nat_lt 8 gap.len) low ranges h)
-    ∙ (λ i. joined (λ gap. is_cut-filter limit (gaps ranges) gap i) (merged ranges))
+    ap (λ g. with_gaps_merged (is_cut limit g) (merged ranges)) (gaps-joined (λ gap. nat_lt 8 gap.len) low ranges h)
+    ∙ (λ i. with_gaps_merged (λ gap. is_cut-filter limit (gaps ranges) gap i) (merged ranges))
     ∙ joined-joined_alone (is_cut limit (gaps ranges)) (λ gap. nat_lt 8 gap.len) low ranges (is_cut_long limit (gaps ranges)) h

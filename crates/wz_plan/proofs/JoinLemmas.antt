@@ -1,7 +1,7 @@
 -- Ranges that are merged: one after another, in two steps, and at the end of a list.
 use Rattle.std.proofs.Common.{ℕ, ◌+◌, ◌-◌, ◌≤◌, ◌≡◌, Bool, true, false, List, [], ◌∷◌, ◌++◌, if◌then◌else◌, append-nil, refl, sym, ◌∙◌, ap, subst, arith}
 use Rattle.wz_plan.specs.declared.runs.Run.{Run}
-use Rattle.wz_plan.specs.Ranges.{end_of, gap_between, hull, RisesFrom, with_first, joined}
+use Rattle.wz_plan.specs.Ranges.{end_of, gap_between, hull, RisesFrom, with_first, with_gaps_merged}
 use Rattle.wz_plan.specs.Collected.{added}
 
 -- the end of a hull is that of its higher part
@@ -25,14 +25,14 @@ rises-with_first apart low cut x (y ∷ ys) zs h rest =
     ]
 
 pub rises-joined : (apart low : ℕ) (cut : Run → Bool) (xs zs : List Run)
-    → RisesFrom apart low (xs ++ zs) → RisesFrom apart low (joined cut xs ++ zs)
+    → RisesFrom apart low (xs ++ zs) → RisesFrom apart low (with_gaps_merged cut xs ++ zs)
 rises-joined apart low cut [] zs h = h
 rises-joined apart low cut (x ∷ xs) zs h =
-    rises-with_first apart low cut x (joined cut xs) zs h.0 (rises-joined apart (end_of x + apart) cut xs zs h.1)
+    rises-with_first apart low cut x (with_gaps_merged cut xs) zs h.0 (rises-joined apart (end_of x + apart) cut xs zs h.1)
 
-pub rises-joined_alone : (apart low : ℕ) (cut : Run → Bool) (xs : List Run) → RisesFrom apart low xs → RisesFrom apart low (joined cut xs)
+pub rises-joined_alone : (apart low : ℕ) (cut : Run → Bool) (xs : List Run) → RisesFrom apart low xs → RisesFrom apart low (with_gaps_merged cut xs)
 rises-joined_alone apart low cut xs h =
-    subst (RisesFrom apart low) (append-nil (joined cut xs))
+    subst (RisesFrom apart low) (append-nil (with_gaps_merged cut xs))
     (rises-joined apart low cut xs [] (subst (RisesFrom apart low) (sym (append-nil xs)) h))
 
 -- a test that passes less than another fails where the other does
@@ -54,38 +54,38 @@ hull-with_first cut x y (z ∷ zs) merge h rest = by_gap (cut (gap_between y z))
 -- a merge of fewer gaps in front of a merge of more of them adds nothing
 joined-with_first : (more fewer : Run → Bool) (x : Run) (ys zs : List Run)
     → ((gap : Run) → more gap ≡ true → fewer gap ≡ true) → RisesFrom 0 (end_of x + 0) (ys ++ zs)
-    → joined more (with_first fewer x ys ++ zs) ≡ with_first more x (joined more (ys ++ zs))
+    → with_gaps_merged more (with_first fewer x ys ++ zs) ≡ with_first more x (with_gaps_merged more (ys ++ zs))
 joined-with_first more fewer x [] zs implies rest = refl
 joined-with_first more fewer x (y ∷ ys) zs implies rest = by_gap (fewer (gap_between x y)) refl
   where
     by_gap : (b : Bool) → fewer (gap_between x y) ≡ b
-        → joined more (with_first fewer x (y ∷ ys) ++ zs) ≡ with_first more x (joined more (y ∷ ys ++ zs))
+        → with_gaps_merged more (with_first fewer x (y ∷ ys) ++ zs) ≡ with_first more x (with_gaps_merged more (y ∷ ys ++ zs))
     by_gap true e = rw e
     by_gap false e = rw e
-        (hull-with_first more x y (joined more (ys ++ zs))
+        (hull-with_first more x y (with_gaps_merged more (ys ++ zs))
         (not_more (more (gap_between x y)) (fewer (gap_between x y)) (implies (gap_between x y)) e) (omega arith)
         (rises-joined_alone 0 (end_of y + 0) more (ys ++ zs) rest.1))
 
 -- a merge of fewer gaps, and then of more, is the merge of more
 pub joined-joined : (more fewer : Run → Bool) (low : ℕ) (xs zs : List Run)
     → ((gap : Run) → more gap ≡ true → fewer gap ≡ true) → RisesFrom 0 low (xs ++ zs)
-    → joined more (joined fewer xs ++ zs) ≡ joined more (xs ++ zs)
+    → with_gaps_merged more (with_gaps_merged fewer xs ++ zs) ≡ with_gaps_merged more (xs ++ zs)
 joined-joined more fewer low [] zs implies h = refl
 joined-joined more fewer low (x ∷ xs) zs implies h =
-    joined-with_first more fewer x (joined fewer xs) zs implies (rises-joined 0 (end_of x + 0) fewer xs zs h.1)
+    joined-with_first more fewer x (with_gaps_merged fewer xs) zs implies (rises-joined 0 (end_of x + 0) fewer xs zs h.1)
     ∙ ap (with_first more x) (joined-joined more fewer (end_of x + 0) xs zs implies h.1)
 
 pub joined-joined_alone : (more fewer : Run → Bool) (low : ℕ) (xs : List Run)
-    → ((gap : Run) → more gap ≡ true → fewer gap ≡ true) → RisesFrom 0 low xs → joined more (joined fewer xs) ≡ joined more xs
+    → ((gap : Run) → more gap ≡ true → fewer gap ≡ true) → RisesFrom 0 low xs → with_gaps_merged more (with_gaps_merged fewer xs) ≡ with_gaps_merged more xs
 joined-joined_alone more fewer low xs implies h =
-    ap (joined more) (sym (append-nil (joined fewer xs)))
+    ap (with_gaps_merged more) (sym (append-nil (with_gaps_merged fewer xs)))
     ∙ joined-joined more fewer low xs [] implies (subst (RisesFrom 0 low) (sym (append-nil xs)) h)
-    ∙ ap (joined more) (append-nil xs)
+    ∙ ap (with_gaps_merged more) (append-nil xs)
 
 -- the same of what stands behind others
 pub joined-append_joined : (more fewer : Run → Bool) (low : ℕ) (xs zs : List Run)
     → ((gap : Run) → more gap ≡ true → fewer gap ≡ true) → RisesFrom 0 low zs
-    → joined more (xs ++ joined fewer zs) ≡ joined more (xs ++ zs)
+    → with_gaps_merged more (xs ++ with_gaps_merged fewer zs) ≡ with_gaps_merged more (xs ++ zs)
 joined-append_joined more fewer low [] zs implies h = joined-joined_alone more fewer low zs implies h
 joined-append_joined more fewer low (x ∷ xs) zs implies h = ap (with_first more x) (joined-append_joined more fewer low xs zs implies h)
 
@@ -109,8 +109,8 @@ with_first-added cut x (y ∷ z ∷ zs) range h = by_gap (cut (gap_between x y))
     by_gap false e = rw e
 
 pub joined-push : (cut : Run → Bool) (low : ℕ) (xs : List Run) (range : Run)
-    → RisesFrom 0 low (xs ++ range ∷ []) → joined cut (xs ++ range ∷ []) ≡ added cut (joined cut xs) range
+    → RisesFrom 0 low (xs ++ range ∷ []) → with_gaps_merged cut (xs ++ range ∷ []) ≡ added cut (with_gaps_merged cut xs) range
 joined-push cut low [] range h = refl
 joined-push cut low (x ∷ xs) range h =
     ap (with_first cut x) (joined-push cut (end_of x + 0) xs range h.1)
-    ∙ with_first-added cut x (joined cut xs) range (rises-joined 0 (end_of x + 0) cut xs (range ∷ []) h.1)
+    ∙ with_first-added cut x (with_gaps_merged cut xs) range (rises-joined 0 (end_of x + 0) cut xs (range ∷ []) h.1)

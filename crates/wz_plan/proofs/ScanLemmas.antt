@@ -9,7 +9,7 @@ use Rattle.std.proofs.lemmas.Bool.{cases_eq}
 use Rattle.std.proofs.lemmas.List.{same_lists, length-set, get_or-set_same, get_or-set_other, get_or-take, get_or_default, take_more, take_all, length-take-le, get_or-drop, length-drop}
 use Rattle.std.proofs.lemmas.List.Elements.{All-nil, All-cons, All-append}
 use Rattle.wz_plan.specs.declared.runs.Run.{Run}
-use Rattle.wz_plan.specs.Ranges.{end_of, gap_between, RisesFrom, EndsBy, with_first, joined}
+use Rattle.wz_plan.specs.Ranges.{end_of, gap_between, RisesFrom, EndsBy, with_first, with_gaps_merged}
 use Rattle.wz_plan.specs.Plan.{nonzero_places, runs_at}
 use Rattle.wz_plan.specs.Scanned.{IsFirstRun, merged}
 use Rattle.wz_plan.specs.Collected.{added, last_gap, KeepsFront}
@@ -61,7 +61,7 @@ unfolding units
 rises_units at zero = tt
 rises_units at (suc count) = (omega arith, rises_lower 0 (at + 1) (at + 1 + 0) (units (at + 1) count) (omega arith) (rises_units (at + 1) count))
 
-joined-units : (at count : ℕ) → joined (λ gap. nat_lt 0 gap.len) (units at (suc count)) ≡ record { at = at; len = suc count } ∷ []
+joined-units : (at count : ℕ) → with_gaps_merged (λ gap. nat_lt 0 gap.len) (units at (suc count)) ≡ record { at = at; len = suc count } ∷ []
 unfolding units
 joined-units at zero = refl
 joined-units at (suc count) =
@@ -142,8 +142,8 @@ merged-next_run old at bytes from run rises ends in_bytes first =
     let whole : Run = record { at = at + run.at; len = run.len } in
     let in_units : nonzero_places at (take (end_of run) bytes) ≡ nonzero_places at (take run.at bytes) ++ units (at + run.at) run.len =
     run_adds_units at bytes run.at run.len within (λ k low high. first.nonzero k low high) in
-    let as_one : joined (λ gap. nat_lt 0 gap.len) (units (at + run.at) run.len) ≡ whole ∷ [] =
-    ap (λ n. joined (λ gap. nat_lt 0 gap.len) (units (at + run.at) n)) size
+    let as_one : with_gaps_merged (λ gap. nat_lt 0 gap.len) (units (at + run.at) run.len) ≡ whole ∷ [] =
+    ap (λ n. with_gaps_merged (λ gap. nat_lt 0 gap.len) (units (at + run.at) n)) size
     ∙ joined-units (at + run.at) (run.len - 1)
     ∙ ap (λ (n : ℕ). let range : Run = record { at = at + run.at; len = n } in range ∷ []) (sym size) in
     let front_ends : EndsBy (at + run.at) front =
@@ -155,13 +155,13 @@ merged-next_run old at bytes from run rises ends in_bytes first =
     rises-append 0 at old (nonzero_places at (take run.at bytes)) (rises_weaker 9 0 0 old (omega arith) rises) ends (omega arith) (rises_places at (take run.at bytes)) in
     let all_rises : RisesFrom 0 0 (front ++ whole ∷ []) =
     rises-append 0 (at + run.at) front (whole ∷ []) front_rises front_ends (omega arith) (omega arith, tt) in
-    ap (λ l. joined (λ gap. nat_lt 8 gap.len) (old ++ l)) in_units
-    ∙ ap (joined (λ gap. nat_lt 8 gap.len)) (sym (append_assoc old (nonzero_places at (take run.at bytes)) (units (at + run.at) run.len)))
+    ap (λ l. with_gaps_merged (λ gap. nat_lt 8 gap.len) (old ++ l)) in_units
+    ∙ ap (with_gaps_merged (λ gap. nat_lt 8 gap.len)) (sym (append_assoc old (nonzero_places at (take run.at bytes)) (units (at + run.at) run.len)))
     ∙ sym (joined-append_joined (λ gap. nat_lt 8 gap.len) (λ gap. nat_lt 0 gap.len) (at + run.at) front (units (at + run.at) run.len)
     long_is_not_empty (rises_units (at + run.at) run.len))
-    ∙ ap (λ l. joined (λ gap. nat_lt 8 gap.len) (front ++ l)) as_one
+    ∙ ap (λ l. with_gaps_merged (λ gap. nat_lt 8 gap.len) (front ++ l)) as_one
     ∙ joined-push (λ gap. nat_lt 8 gap.len) 0 front whole all_rises
-    ∙ ap (λ l. added (λ gap. nat_lt 8 gap.len) (joined (λ gap. nat_lt 8 gap.len) (old ++ l)) whole) skipped
+    ∙ ap (λ l. added (λ gap. nat_lt 8 gap.len) (with_gaps_merged (λ gap. nat_lt 8 gap.len) (old ++ l)) whole) skipped
 
 -- where no run is left, nothing is
 pub merged-no_run : (old : List Run) (at : ℕ) (bytes : List ℕ) (from : ℕ)
@@ -241,11 +241,11 @@ in_front n cut low x (y ∷ ys) long h rest = by_gap (cut (gap_between x y)) ref
     by_gap false e = rw e (h, subst (λ m. RisesFrom (n + 1) (m + (n + 1)) ys) (sym (end-hull x y (omega arith))) rest.1)
 
 pub rises_cut : (n : ℕ) (cut : Run → Bool) (low : ℕ) (xs : List Run) → ((gap : Run) → cut gap ≡ true → nat_lt n gap.len ≡ true)
-    → RisesFrom 0 low xs → RisesFrom (n + 1) low (joined cut xs)
+    → RisesFrom 0 low xs → RisesFrom (n + 1) low (with_gaps_merged cut xs)
 rises_cut n cut low [] long h = tt
 rises_cut n cut low (x ∷ xs) long h =
-    in_front n cut low x (joined cut xs) long h.0
-    (rises_lower (n + 1) (end_of x + 0) (end_of x) (joined cut xs) (omega arith) (rises_cut n cut (end_of x + 0) xs long h.1))
+    in_front n cut low x (with_gaps_merged cut xs) long h.0
+    (rises_lower (n + 1) (end_of x + 0) (end_of x) (with_gaps_merged cut xs) (omega arith) (rises_cut n cut (end_of x + 0) xs long h.1))
 
 pub rises_merged : (low : ℕ) (xs : List Run) → RisesFrom 0 low xs → RisesFrom 9 low (merged xs)
 unfolding merged

@@ -2,7 +2,7 @@
 use Rattle.std.specs.Prelude.{ℕ, ◌-◌, ◌<◌, ◌≤◌, ◌≡◌, ◌≢◌, List, ◌++◌, length, replicate, slice_index}
 use Rattle.std.specs.List.{All}
 use Rattle.wz_plan.specs.declared.runs.Run.{Run}
-use Rattle.wz_plan.specs.Ranges.{end_of, RisesFrom, EndsBy}
+use Rattle.wz_plan.specs.Ranges.{shortest_cut, end_of, RisesFrom, EndsBy}
 use Rattle.wz_plan.specs.Plan.{Covers, plan, chosen, runs}
 use Rattle.wz_plan.specs.Scanned.{found_in, found_after, followed_at}
 
@@ -45,9 +45,9 @@ RunsCover = (bytes : List ℕ) → Covers bytes (runs bytes)
 abbrev pub PlanCovers : Type 0
 PlanCovers = (bytes : List ℕ) (limit : ℕ) → Covers bytes (plan bytes limit)
 
--- the plan's ranges rise with gaps of more than 8, lie within the memory, and begin and end with a non-zero byte
+-- the plan's ranges rise with gaps of at least `shortest_cut`, lie within the memory, and begin and end with a non-zero byte
 abbrev pub PlanRises : Type 0
-PlanRises = (bytes : List ℕ) (limit : ℕ) → RisesFrom 9 0 (plan bytes limit)
+PlanRises = (bytes : List ℕ) (limit : ℕ) → RisesFrom shortest_cut 0 (plan bytes limit)
 
 abbrev pub PlanIsWithin : Type 0
 PlanIsWithin = (bytes : List ℕ) (limit : ℕ) → EndsBy (length bytes) (plan bytes limit)

@@ -3,6 +3,18 @@ use Rattle.std.specs.Prelude.{ℕ, ◌+◌, ◌-◌, ◌≤◌, Bool, if◌then�
 use Rattle.std.specs.List.{All}
 use Rattle.wz_plan.specs.declared.runs.Run.{Run}
 
+-- what a segment takes besides its bytes, as the plan counts it
+abbrev pub segment_cost : ℕ
+segment_cost = 8
+
+-- the longest gap that is always written along: it takes no more than a segment of its own would
+abbrev pub longest_merged : ℕ
+longest_merged = segment_cost
+
+-- the shortest gap that may be cut
+abbrev pub shortest_cut : ℕ
+shortest_cut = longest_merged + 1
+
 -- the place behind a range
 abbrev pub end_of : Run → ℕ
 end_of range = range.at + range.len
@@ -37,6 +49,6 @@ with_first cut range (next ∷ ranges) =
     if cut (gap_between range next) then range ∷ next ∷ ranges else hull range next ∷ ranges
 
 -- the ranges that are left where each gap that isn't cut is merged with its two neighbours
-abbrev pub joined : (Run → Bool) → List Run → List Run
-joined cut [] = []
-joined cut (range ∷ ranges) = with_first cut range (joined cut ranges)
+abbrev pub with_gaps_merged : (Run → Bool) → List Run → List Run
+with_gaps_merged cut [] = []
+with_gaps_merged cut (range ∷ ranges) = with_first cut range (with_gaps_merged cut ranges)

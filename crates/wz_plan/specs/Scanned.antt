@@ -1,7 +1,7 @@
--- What a scan of bytes finds: their runs, where gaps of up to 8 are merged.
+-- What a scan of bytes finds: their runs, where short gaps are merged. This is the tool's own.
 use Rattle.std.specs.Prelude.{ℕ, ◌+◌, ◌-◌, ◌≡◌, ◌≢◌, ◌<◌, ◌≤◌, ◌^◌, nat_lt, List, ◌++◌, length, replicate, slice_index}
 use Rattle.wz_plan.specs.declared.runs.Run.{Run}
-use Rattle.wz_plan.specs.Ranges.{end_of, RisesFrom, EndsBy, joined}
+use Rattle.wz_plan.specs.Ranges.{longest_merged, shortest_cut, end_of, RisesFrom, EndsBy, with_gaps_merged}
 use Rattle.wz_plan.specs.Plan.{runs, runs_at}
 
 -- a run is the first one from a place on: all is zero before it, all in it is not, and behind it is a zero or the end
@@ -13,9 +13,9 @@ pub record IsFirstRun (bytes : List ℕ) (from : ℕ) (run : Run) : Type 0 where
   pub within : end_of run ≤ length bytes
   pub ends : slice_index bytes (end_of run) ≡ 0
 
--- the ranges that are left where gaps of up to 8 are merged
+-- the ranges that are left where gaps of up to `longest_merged` are merged
 unfoldable pub merged : List Run → List Run
-merged ranges = joined (λ gap. nat_lt 8 gap.len) ranges
+merged ranges = with_gaps_merged (λ gap. nat_lt longest_merged gap.len) ranges
 
 -- what was found so far, and the place behind the bytes that were looked at
 pub record Found : Type 0 where
@@ -34,8 +34,8 @@ found_after found at bytes = record { runs = merged (found.runs ++ runs_at at by
 abbrev pub followed_at : List ℕ → ℕ → List ℕ → List ℕ
 followed_at bytes at more = bytes ++ replicate (at - length bytes) 0 ++ more
 
--- what a scan keeps at all times: ranges with gaps of more than 8, which end by the place behind the bytes
+-- what a scan keeps at all times: ranges with longer gaps between them, which end by the place behind the bytes
 pub record IsScan (found : Found) : Type 0 where
-  pub apart : RisesFrom 9 0 found.runs
+  pub apart : RisesFrom shortest_cut 0 found.runs
   pub ends : EndsBy found.end found.runs
   pub small : found.end ≤ 2 ^ 30

@@ -2,7 +2,7 @@
 
 ghost use Rattle.std.specs.Prelude.{◌≡◌, ℕ, ◌+◌, ◌-◌, ◌^◌, ◌≤◌, List, length, nat_lt, IfSome, IfOk};
 ghost use Rattle.wz_plan.specs.declared.runs.Run.{Run as TheRun};
-ghost use Rattle.wz_plan.specs.Ranges.{RisesFrom, EndsBy, gaps};
+ghost use Rattle.wz_plan.specs.Ranges.{RisesFrom, EndsBy, gaps, shortest_cut};
 ghost use Rattle.wz_plan.specs.Plan.{goes_before, rank, chosen, plan};
 ghost use Rattle.wz_plan.specs.Scanned.{found_in};
 ghost use Rattle.wz_plan.specs.Collected.{cuts_gap, last_gap};
@@ -20,11 +20,11 @@ enum Cuts {
     UpTo(Run),
 }
 
-/// The ranges that are left of the runs where the limit - 1 longest gaps are cut, of equally long ones
-/// the lower first, and all others are merged: at most as many ranges as the limit.
+/// The ranges that are left of the runs where the limit - 1 longest gaps are cut, of equally long
+/// ones the lower first, and all others are merged: at most as many ranges as the limit.
 pub fn choose(alloc: Global, runs: &[Run], limit: u32) -> Result<Vec<Run>, AllocError>
     requires some { 1 ≤ limit }
-    requires apart { RisesFrom 9 0 runs.now }
+    requires apart { RisesFrom shortest_cut 0 runs.now }
     requires ends { EndsBy (2 ^ 30) runs.now }
     ensures chosen { IfOk result (λ ranges. ranges.items ≡ chosen runs.now limit) }
     ensures few { IfOk result (λ ranges. length ranges.items ≤ limit) }
@@ -42,9 +42,10 @@ pub fn choose(alloc: Global, runs: &[Run], limit: u32) -> Result<Vec<Run>, Alloc
 
 /// Which gaps are cut where only so many may be.
 fn cuts_of(alloc: Global, runs: &[Run], count: u32) -> Result<Cuts, AllocError>
-    requires apart { RisesFrom 9 0 runs.now }
+    requires apart { RisesFrom shortest_cut 0 runs.now }
     requires ends { EndsBy (2 ^ 30) runs.now }
-    ensures { IfOk result (λ cuts. (gap : TheRun) → cuts_gap cuts gap ≡ nat_lt (rank (gaps runs.now) gap) count) }
+    ensures { IfOk result (λ cuts. (gap : TheRun) →
+        cuts_gap cuts gap ≡ nat_lt (rank (gaps runs.now) gap) count) }
 {
     let Some(last) = (count as usize).checked_sub(1) else {
         return Ok(Cuts::NoGap);
@@ -59,7 +60,7 @@ fn cuts_of(alloc: Global, runs: &[Run], count: u32) -> Result<Cuts, AllocError>
 
 /// The gaps between the runs, from the lowest.
 fn gaps_of(alloc: Global, runs: &[Run]) -> Result<Vec<Run>, AllocError>
-    requires apart { RisesFrom 9 0 runs.now }
+    requires apart { RisesFrom shortest_cut 0 runs.now }
     requires ends { EndsBy (2 ^ 30) runs.now }
     ensures { IfOk result (λ found. found.items ≡ gaps runs.now) }
 {

@@ -1,7 +1,7 @@
 //! A scan of a memory for its runs, in pieces.
 
 ghost use Rattle.std.specs.Prelude.{◌≡◌, ℕ, ◌+◌, ◌^◌, ◌<◌, ◌≤◌, ◌++◌, [], List, length, nat_lt, IfSome, OnOk, OnErr};
-ghost use Rattle.wz_plan.specs.Ranges.{RisesFrom, EndsBy};
+ghost use Rattle.wz_plan.specs.Ranges.{RisesFrom, EndsBy, longest_merged, shortest_cut};
 ghost use Rattle.wz_plan.specs.Collected.{KeepsFront, last_gap};
 ghost use Rattle.wz_plan.specs.Plan.{runs_at};
 ghost use Rattle.wz_plan.specs.Scanned.{Found, found_in, found_after, followed_at, merged};
@@ -16,8 +16,9 @@ const LONGEST_MERGED: u32 = 8;
 
 /// What was found in the bytes of a memory so far.
 ///
-/// Contracts see it as the runs, with gaps of up to 8 bytes merged, and the place behind the bytes that
-/// were pushed. Bytes that are never pushed count as zero. It takes memory for these runs alone.
+/// Contracts see it as the runs, with gaps of up to 8 bytes merged, and the place behind the bytes
+/// that were pushed. Bytes that are never pushed count as zero. It takes memory for these runs
+/// alone.
 #[derive(Drop)]
 pub struct Scan {
     runs: Vec<Run>,
@@ -61,7 +62,7 @@ impl Scan {
     /// The runs so far, with gaps of up to 8 bytes merged.
     pub fn runs(&self) -> &[Run]
         ensures found { result.now ≡ self.now.runs }
-        ensures apart { RisesFrom 9 0 result.now }
+        ensures apart { RisesFrom shortest_cut 0 result.now }
         ensures ends { EndsBy (2 ^ 30) result.now }
     {
         self.runs.as_slice()
@@ -70,10 +71,11 @@ impl Scan {
 
 /// Adds the runs of bytes that stand at `at`, or none of them.
 fn push_runs(runs: &mut Vec<Run>, at: u32, bytes: &[u8]) -> Result<(), AllocError>
-    requires apart { RisesFrom 9 0 runs.old.items }
+    requires apart { RisesFrom shortest_cut 0 runs.old.items }
     requires ends { EndsBy at runs.old.items }
     requires small { at + length bytes.now ≤ 2 ^ 30 }
-    ensures merged { OnOk result (runs.new.items ≡ merged (runs.old.items ++ runs_at at bytes.now)) }
+    ensures merged { OnOk result
+        (runs.new.items ≡ merged (runs.old.items ++ runs_at at bytes.now)) }
     ensures ends { OnOk result (EndsBy (at + length bytes.now) runs.new.items) }
     ensures refused { OnErr result (runs.new.items ≡ runs.old.items) }
 {
@@ -91,10 +93,11 @@ fn push_runs(runs: &mut Vec<Run>, at: u32, bytes: &[u8]) -> Result<(), AllocErro
 
 /// Adds the runs of bytes that stand at `at`, as far as memory serves.
 fn add_runs(runs: &mut Vec<Run>, at: u32, bytes: &[u8]) -> Result<(), AllocError>
-    requires apart { RisesFrom 9 0 runs.old.items }
+    requires apart { RisesFrom shortest_cut 0 runs.old.items }
     requires ends { EndsBy at runs.old.items }
     requires small { at + length bytes.now ≤ 2 ^ 30 }
-    ensures merged { OnOk result (runs.new.items ≡ merged (runs.old.items ++ runs_at at bytes.now)) }
+    ensures merged { OnOk result
+        (runs.new.items ≡ merged (runs.old.items ++ runs_at at bytes.now)) }
     ensures ends { OnOk result (EndsBy (at + length bytes.now) runs.new.items) }
     ensures front { KeepsFront runs.old.items runs.new.items }
 {
@@ -114,7 +117,7 @@ fn add_runs(runs: &mut Vec<Run>, at: u32, bytes: &[u8]) -> Result<(), AllocError
 /// Whether the gap between the last of the ranges and a run behind them is too long to be merged.
 fn is_apart(ranges: &[Run], run: Run) -> bool
     requires { EndsBy run.at ranges.now }
-    ensures { IfSome (last_gap ranges.now run) (λ gap. result ≡ nat_lt 8 gap.len) }
+    ensures { IfSome (last_gap ranges.now run) (λ gap. result ≡ nat_lt longest_merged gap.len) }
 {
     match gap_before(ranges, run) {
         Some(gap) => gap.len > LONGEST_MERGED,

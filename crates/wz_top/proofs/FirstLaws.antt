@@ -14,8 +14,8 @@ use Rattle.wz_bytes.proofs.UnsignedLaws.{unsigned_exact}
 use Rattle.wz_bytes.proofs.SignedLaws.{signed_exact}
 use Rattle.wz_bytes.proofs.NameLaws.{name_exact}
 use Rattle.wz_bytes.proofs.FormLaws.{both_exact, tagged_exact, made_exact, sized_exact, vector_exact}
-use Rattle.wz_top.specs.FirstGrammar.{IsNumber, IsEnd, IsIndex, IsInteger, WithText, IsMutability, IsGlobal, IsTarget, IsExport, IsInstruction, IsExpression, IsOneType, IsOneFunction, IsOneBody, IsSection, AreSections, global_of, export_of, module_of}
-use Rattle.wz_top.specs.FirstReading.{number_at, end_at, index_at, integer_at, with_text_at, mutability_at, global_at, target_at, export_at, instruction_at, instructions_at, expression_at, end_or, one_type_at, one_function_at, entry_at, one_body_at, section_at, sections_at}
+use Rattle.wz_top.specs.FirstGrammar.{IsNumber, IsEnd, IsIndex, IsInteger, WithText, IsMutability, IsGlobal, IsFirstTarget, IsFirstExport, IsInstruction, IsFirstExpression, IsOneType, IsOneFunction, IsOneBody, IsSection, AreSections, first_global_of, first_export_of, first_module_of}
+use Rattle.wz_top.specs.FirstReading.{number_at, end_at, first_index_at, integer_at, with_text_at, mutability_at, global_at, target_at, first_export_at, instruction_at, instructions_at, first_expression_at, end_or, one_type_at, one_function_at, first_entry_at, one_body_at, section_at, sections_at}
 use Rattle.wz_top.specs.declared.first_grammar.Target.{Target}
 use Rattle.wz_top.specs.declared.first_grammar.Target.TheVariants as target
 use Rattle.wz_top.specs.declared.first_grammar.Instruction.{Instruction}
@@ -45,7 +45,7 @@ end_found (b ∷ bytes) u rest e =
 pub end_exact : IsExact IsEnd end_at
 end_exact = record { found = end_found; again = λ text u rest h. rw h refl }
 
-index_exact : IsExact IsIndex index_at
+index_exact : IsExact IsIndex first_index_at
 index_exact = unsigned_exact 32
 
 pub integer_exact : IsExact IsInteger integer_at
@@ -67,7 +67,8 @@ with_text_exact {X = X} S p exact = record {
 
 -- ---- one form of several, by its first byte
 
-row : {X Y : Type 0} (R : List ℕ → Y → Type 0) (S : List ℕ → X → Type 0) (p : List ℕ → Option (X × List ℕ)) → IsExact S p → (make : X → Y) (b k : ℕ) (bytes : List ℕ) (y : Y) (rest : List ℕ)
+row : {X Y : Type 0} (R : List ℕ → Y → Type 0) (S : List ℕ → X → Type 0) (p : List ℕ → Option (X × List ℕ)) → IsExact S p
+    → (make : X → Y) (b k : ℕ) (bytes : List ℕ) (y : Y) (rest : List ℕ)
     → nat_eq b k ≡ true → made_at make p bytes ≡ Some (y, rest) → ((text : List ℕ) (x : X) → S text x → R (k ∷ text) (make x)) → Front R (b ∷ bytes) y rest
 row {X = X} {Y = Y} R S p exact make b k bytes y rest is e spell =
     let x = bind_some (p bytes) _ _ e in
@@ -79,7 +80,8 @@ abbrev read_as : {Y : Type 0} → Y → List ℕ → Option (Y × List ℕ)
 read_as y rest = Some (y, rest)
 
 -- one byte alone
-bare : {Y : Type 0} (R : List ℕ → Y → Type 0) (b k : ℕ) (bytes : List ℕ) (x y : Y) (rest : List ℕ) → nat_eq b k ≡ true → read_as x bytes ≡ read_as y rest → R (k ∷ []) x → Front R (b ∷ bytes) y rest
+bare : {Y : Type 0} (R : List ℕ → Y → Type 0) (b k : ℕ) (bytes : List ℕ) (x y : Y) (rest : List ℕ) → nat_eq b k ≡ true → read_as x bytes ≡ read_as y rest
+    → R (k ∷ []) x → Front R (b ∷ bytes) y rest
 bare {Y = Y} R b k bytes x y rest is e spelled =
     subst (λ (w : Y × List ℕ). Front R (b ∷ bytes) w.0 w.1) (some_is _ _ e) (record { text = k ∷ []; parts = ap (λ (t : ℕ). t ∷ bytes) (eqb-true b k is); spelled = spelled })
 
@@ -98,20 +100,20 @@ mutability_again text true rest h = rw h refl
 pub mutability_exact : IsExact IsMutability mutability_at
 mutability_exact = record { found = mutability_found; again = mutability_again }
 
-target_found : (bytes : List ℕ) (t : Target) (rest : List ℕ) → target_at bytes ≡ Some (t, rest) → Front IsTarget bytes t rest
+target_found : (bytes : List ℕ) (t : Target) (rest : List ℕ) → target_at bytes ≡ Some (t, rest) → Front IsFirstTarget bytes t rest
 target_found [] t rest e = absurd cc
 target_found (b ∷ bytes) t rest e =
     elim (chosen (nat_eq b 0x00) _ _ _ e) [
-      | inl h ↦ row IsTarget (IsNumber 0) (number_at 0) (number_exact 0) (λ _. target.Function) b 0x00 bytes t rest h.0 h.1 (λ text x s. (text, refl, s))
+      | inl h ↦ row IsFirstTarget (IsNumber 0) (number_at 0) (number_exact 0) (λ _. target.Function) b 0x00 bytes t rest h.0 h.1 (λ text x s. (text, refl, s))
       | inr h ↦ let g = guarded (nat_eq b 0x03) _ _ h.1 in
-          row IsTarget IsIndex index_at index_exact (λ n. target.Global n) b 0x03 bytes t rest g.0 g.1 (λ text x s. (text, refl, s))
+          row IsFirstTarget IsIndex first_index_at index_exact (λ n. target.Global n) b 0x03 bytes t rest g.0 g.1 (λ text x s. (text, refl, s))
     ]
 
-target_again : (text : List ℕ) (t : Target) (rest : List ℕ) → IsTarget text t → target_at (text ++ rest) ≡ Some (t, rest)
+target_again : (text : List ℕ) (t : Target) (rest : List ℕ) → IsFirstTarget text t → target_at (text ++ rest) ≡ Some (t, rest)
 target_again text target.Function rest h = rw (h.1, (number_exact 0).again h.0 tt rest h.2) refl
 target_again text (target.Global index) rest h = rw (h.1, index_exact.again h.0 index rest h.2) refl
 
-pub target_exact : IsExact IsTarget target_at
+pub target_exact : IsExact IsFirstTarget target_at
 target_exact = record { found = target_found; again = target_again }
 
 -- ---- instructions
@@ -122,9 +124,9 @@ instruction_found (b ∷ bytes) i rest e =
     elim (chosen (nat_eq b 0x41) _ _ _ e) [
       | inl h ↦ row IsInstruction IsInteger integer_at integer_exact (λ n. instruction.Const n) b 0x41 bytes i rest h.0 h.1 (λ text x s. (text, refl, s))
       | inr h ↦ elim (chosen (nat_eq b 0x23) _ _ _ h.1) [
-        | inl g ↦ row IsInstruction IsIndex index_at index_exact (λ n. instruction.GlobalGet n) b 0x23 bytes i rest g.0 g.1 (λ text x s. (text, refl, s))
+        | inl g ↦ row IsInstruction IsIndex first_index_at index_exact (λ n. instruction.GlobalGet n) b 0x23 bytes i rest g.0 g.1 (λ text x s. (text, refl, s))
         | inr g ↦ elim (chosen (nat_eq b 0x24) _ _ _ g.1) [
-          | inl f ↦ row IsInstruction IsIndex index_at index_exact (λ n. instruction.GlobalSet n) b 0x24 bytes i rest f.0 f.1 (λ text x s. (text, refl, s))
+          | inl f ↦ row IsInstruction IsIndex first_index_at index_exact (λ n. instruction.GlobalSet n) b 0x24 bytes i rest f.0 f.1 (λ text x s. (text, refl, s))
           | inr f ↦ let d = guarded (nat_eq b 0x6A) _ _ f.1 in bare IsInstruction b 0x6A bytes instruction.Add i rest d.0 d.1 refl
         ]
       ]
@@ -154,7 +156,7 @@ instruction_starts text instruction.Add h = record { byte = 0x6A; others = []; p
 
 -- ---- expressions
 
-is_first : (i : Instruction) (is : List Instruction) (text : List ℕ) → IsExpression text (i ∷ is) → Starts text
+is_first : (i : Instruction) (is : List Instruction) (text : List ℕ) → IsFirstExpression text (i ∷ is) → Starts text
 is_first i is text h =
     let s = instruction_starts h.0 i h.3 in
     record { byte = s.byte; others = s.others ++ h.1; parts = h.2 ∙ ap (λ (t : List ℕ). t ++ h.1) s.parts; other = s.other }
@@ -167,19 +169,20 @@ end_or-other : (text : List ℕ) (others : Parsed) → Starts text → end_or te
 end_or-other text others s =
     ap (λ (t : List ℕ). end_or t others) s.parts ∙ ap (λ (t : Bool). cond t (Some ([], s.others)) others) s.other
 
-expression_found : (fuel : ℕ) (bytes : List ℕ) (is : List Instruction) (rest : List ℕ) → instructions_at fuel bytes ≡ Some (is, rest) → Front IsExpression bytes is rest
+expression_found : (fuel : ℕ) (bytes : List ℕ) (is : List Instruction) (rest : List ℕ) → instructions_at fuel bytes ≡ Some (is, rest)
+    → Front IsFirstExpression bytes is rest
 unfolding instructions_at
 expression_found zero bytes is rest e = absurd cc
 expression_found (suc more) [] is rest e = absurd cc
 expression_found (suc more) (b ∷ bytes) is rest e =
     elim (chosen (nat_eq b 0x0B) _ _ _ e) [
-      | inl h ↦ bare IsExpression b 0x0B bytes [] is rest h.0 h.1 refl
+      | inl h ↦ bare IsFirstExpression b 0x0B bytes [] is rest h.0 h.1 refl
       | inr h ↦
           let x = bind_some (instruction_at (b ∷ bytes)) _ _ h.1 in
           let xs = bind_some (instructions_at more x.0.1) _ _ x.2 in
           let first = instruction_found (b ∷ bytes) x.0.0 x.0.1 x.1 in
           let others = expression_found more x.0.1 xs.0.0 xs.0.1 xs.1 in
-          subst (λ (w : List Instruction × List ℕ). Front IsExpression (b ∷ bytes) w.0 w.1) (some_is _ _ xs.2)
+          subst (λ (w : List Instruction × List ℕ). Front IsFirstExpression (b ∷ bytes) w.0 w.1) (some_is _ _ xs.2)
           (record {
             text = first.text ++ others.text;
             parts = first.parts ∙ ap (λ (t : List ℕ). first.text ++ t) others.parts ∙ sym (append_assoc first.text others.text xs.0.1);
@@ -190,7 +193,8 @@ expression_found (suc more) (b ∷ bytes) is rest e =
 starts_long : (text : List ℕ) → Starts text → 0 < length text
 starts_long text s = let e = ap length s.parts in omega (arith, e)
 
-expression_again : (fuel : ℕ) (is : List Instruction) (text rest : List ℕ) → length text ≤ fuel → IsExpression text is → instructions_at fuel (text ++ rest) ≡ Some (is, rest)
+expression_again : (fuel : ℕ) (is : List Instruction) (text rest : List ℕ) → length text ≤ fuel → IsFirstExpression text is
+    → instructions_at fuel (text ++ rest) ≡ Some (is, rest)
 unfolding instructions_at
 expression_again zero [] text rest enough h = let e = ap length h in absurd (omega (arith, e))
 expression_again zero (i ∷ is) text rest enough h = absurd (omega (arith, starts_long text (is_first i is text h)))
@@ -198,7 +202,12 @@ expression_again (suc more) [] text rest enough h = rw h refl
 expression_again (suc more) (i ∷ is) text rest enough h =
     let s = instruction_starts h.0 i h.3 in
     let parts : text ++ rest ≡ h.0 ++ (h.1 ++ rest) = ap (λ (t : List ℕ). t ++ rest) h.2 ∙ append_assoc h.0 h.1 rest in
-    let starts : Starts (h.0 ++ (h.1 ++ rest)) = record { byte = s.byte; others = s.others ++ (h.1 ++ rest); parts = ap (λ (t : List ℕ). t ++ (h.1 ++ rest)) s.parts; other = s.other } in
+    let starts : Starts (h.0 ++ (h.1 ++ rest)) = record {
+      byte = s.byte;
+      others = s.others ++ (h.1 ++ rest);
+      parts = ap (λ (t : List ℕ). t ++ (h.1 ++ rest)) s.parts;
+      other = s.other;
+    } in
     let sum : length text ≡ length h.0 + length h.1 = ap length h.2 ∙ length-append h.0 h.1 in
     let tail = expression_again more is h.1 rest (omega (arith, enough, sum, starts_long h.0 s)) h.4 in
     rw (
@@ -208,8 +217,8 @@ expression_again (suc more) (i ∷ is) text rest enough h =
       tail,
     ) refl
 
-pub expression_exact : IsExact IsExpression expression_at
-unfolding expression_at
+pub expression_exact : IsExact IsFirstExpression first_expression_at
+unfolding first_expression_at
 expression_exact = record {
   found = λ bytes is rest e. expression_found (length bytes) bytes is rest e;
   again = λ text is rest h. expression_again (length (text ++ rest)) is text rest (omega (arith, length-append text rest)) h;
@@ -222,10 +231,10 @@ global_exact =
     let value = both_exact IsInteger IsEnd integer_at end_at integer_exact end_exact in
     let tagged = tagged_exact 0x41 (Both IsInteger IsEnd) (both_at integer_at end_at) value in
     let both = both_exact IsMutability (Tagged 0x41 (Both IsInteger IsEnd)) mutability_at (tagged_at 0x41 (both_at integer_at end_at)) mutability_exact tagged in
-    made_exact global_of _ _ (tagged_exact 0x7F _ _ both)
+    made_exact first_global_of _ _ (tagged_exact 0x7F _ _ both)
 
-export_exact : IsExact IsExport export_at
-export_exact = made_exact export_of _ _ (both_exact IsName IsTarget name_at target_at name_exact target_exact)
+export_exact : IsExact IsFirstExport first_export_at
+export_exact = made_exact first_export_of _ _ (both_exact IsName IsFirstTarget name_at target_at name_exact target_exact)
 
 one_type_exact : IsExact IsOneType one_type_at
 one_type_exact =
@@ -236,13 +245,14 @@ one_function_exact : IsExact IsOneFunction one_function_at
 one_function_exact = made_exact (λ _. tt) _ _ (both_exact (IsNumber 1) (IsNumber 0) (number_at 1) (number_at 0) (number_exact 1) (number_exact 0))
 
 abbrev IsEntry : List ℕ → List Instruction → Type 0
-IsEntry t is = Made (λ x. x.1) (Both (IsNumber 0) IsExpression) t is
+IsEntry t is = Made (λ x. x.1) (Both (IsNumber 0) IsFirstExpression) t is
 
-entry_exact : IsExact IsEntry entry_at
-entry_exact = made_exact (λ x. x.1) _ _ (both_exact (IsNumber 0) IsExpression (number_at 0) expression_at (number_exact 0) expression_exact)
+entry_exact : IsExact IsEntry first_entry_at
+entry_exact = made_exact (λ x. x.1) _ _ (both_exact (IsNumber 0) IsFirstExpression (number_at 0) first_expression_at (number_exact 0) expression_exact)
 
 one_body_exact : IsExact IsOneBody one_body_at
-one_body_exact = made_exact (λ x. x.1) _ _ (both_exact (IsNumber 1) (Sized IsEntry) (number_at 1) (sized_at entry_at) (number_exact 1) (sized_exact IsEntry entry_at entry_exact))
+one_body_exact =
+    made_exact (λ x. x.1) _ _ (both_exact (IsNumber 1) (Sized IsEntry) (number_at 1) (sized_at first_entry_at) (number_exact 1) (sized_exact IsEntry first_entry_at entry_exact))
 
 section_exact : {X : Type 0} (id : ℕ) (S : List ℕ → X → Type 0) (p : List ℕ → Option (X × List ℕ)) → IsExact S p → IsExact (IsSection id S) (section_at id p)
 section_exact id S p exact = tagged_exact id (Sized S) (sized_at p) (sized_exact S p exact)
@@ -252,9 +262,9 @@ sections_exact =
     let types = section_exact 1 (WithText IsOneType) (with_text_at one_type_at) (with_text_exact IsOneType one_type_at one_type_exact) in
     let functions = section_exact 3 (WithText IsOneFunction) (with_text_at one_function_at) (with_text_exact IsOneFunction one_function_at one_function_exact) in
     let globals = section_exact 6 (IsVector IsGlobal) (vector_at global_at) (vector_exact IsGlobal global_at global_exact) in
-    let exports = section_exact 7 (IsVector IsExport) (vector_at export_at) (vector_exact IsExport export_at export_exact) in
+    let exports = section_exact 7 (IsVector IsFirstExport) (vector_at first_export_at) (vector_exact IsFirstExport first_export_at export_exact) in
     let code = section_exact 10 (WithText IsOneBody) (with_text_at one_body_at) (with_text_exact IsOneBody one_body_at one_body_exact) in
-    made_exact module_of _ _ (both_exact _ _ _ _ types (both_exact _ _ _ _ functions (both_exact _ _ _ _ globals (both_exact _ _ _ _ exports code))))
+    made_exact first_module_of _ _ (both_exact _ _ _ _ types (both_exact _ _ _ _ functions (both_exact _ _ _ _ globals (both_exact _ _ _ _ exports code))))
 
 -- ---- an expression, read one instruction after the other
 
@@ -279,26 +289,27 @@ before-nil None = refl
 before-nil (Some x) = refl
 
 -- the end
-pub expression-end : (bytes after : List ℕ) (b : ℕ) → bytes ≡ b ∷ after → b ≡ 0x0B → expression_at bytes ≡ Some ([], after)
-unfolding expression_at instructions_at
+pub expression-end : (bytes after : List ℕ) (b : ℕ) → bytes ≡ b ∷ after → b ≡ 0x0B → first_expression_at bytes ≡ Some ([], after)
+unfolding first_expression_at instructions_at
 expression-end bytes after b parts is = rw (parts, is) refl
 
 -- nothing is left
-pub expression-nothing : (bytes : List ℕ) → bytes ≡ [] → expression_at bytes ≡ None
-unfolding expression_at instructions_at
+pub expression-nothing : (bytes : List ℕ) → bytes ≡ [] → first_expression_at bytes ≡ None
+unfolding first_expression_at instructions_at
 expression-nothing bytes none = rw none refl
 
 -- an instruction, and the others
-pub expression-next : (bytes after rest : List ℕ) (b : ℕ) (i : Instruction) → bytes ≡ b ∷ after → (b ≡ 0x0B → ⊥) → instruction_at bytes ≡ Some (i, rest) → length rest < length bytes
-    → expression_at bytes ≡ (expression_at rest >>= λ xs. Some (i ∷ xs.0, xs.1))
-unfolding expression_at instructions_at
+pub expression-next : (bytes after rest : List ℕ) (b : ℕ) (i : Instruction) → bytes ≡ b ∷ after → (b ≡ 0x0B → ⊥) → instruction_at bytes ≡ Some (i, rest)
+    → length rest < length bytes
+    → first_expression_at bytes ≡ (first_expression_at rest >>= λ xs. Some (i ∷ xs.0, xs.1))
+unfolding first_expression_at instructions_at
 expression-next bytes after rest b i parts other e shorter =
     let starts : Starts bytes = record { byte = b; others = after; parts = parts; other = ne_eqb b 0x0B other } in
     let long : length bytes ≡ suc (length after) = ap length parts in
     rw (long, end_or-other bytes _ starts, e, same_fuel (length after) (length rest) rest _ _ refl refl (omega (arith, long, shorter)) (omega arith)) refl
 
-pub expression-none : (bytes after : List ℕ) (b : ℕ) → bytes ≡ b ∷ after → (b ≡ 0x0B → ⊥) → instruction_at bytes ≡ None → expression_at bytes ≡ None
-unfolding expression_at instructions_at
+pub expression-none : (bytes after : List ℕ) (b : ℕ) → bytes ≡ b ∷ after → (b ≡ 0x0B → ⊥) → instruction_at bytes ≡ None → first_expression_at bytes ≡ None
+unfolding first_expression_at instructions_at
 expression-none bytes after b parts other e =
     let starts : Starts bytes = record { byte = b; others = after; parts = parts; other = ne_eqb b 0x0B other } in
     let long : length bytes ≡ suc (length after) = ap length parts in
@@ -309,15 +320,18 @@ before-step is i None = refl
 before-step is i (Some x) = ap (λ (xs : List Instruction). read_as xs x.1) (sym (append_assoc is (i ∷ []) x.0))
 
 -- one turn of the reading
-pub reads_on : (bytes here after rest : List ℕ) (b : ℕ) (is now : List Instruction) (i : Instruction) → expression_at bytes ≡ before is (expression_at here) → here ≡ b ∷ after → (b ≡ 0x0B → ⊥)
-    → instruction_at here ≡ Some (i, rest) → length rest < length here → now ≡ is ++ i ∷ [] → expression_at bytes ≡ before now (expression_at rest)
+pub reads_on : (bytes here after rest : List ℕ) (b : ℕ) (is now : List Instruction) (i : Instruction)
+    → first_expression_at bytes ≡ before is (first_expression_at here) → here ≡ b ∷ after → (b ≡ 0x0B → ⊥)
+    → instruction_at here ≡ Some (i, rest) → length rest < length here → now ≡ is ++ i ∷ [] → first_expression_at bytes ≡ before now (first_expression_at rest)
 reads_on bytes here after rest b is now i so_far parts other e shorter push =
-    so_far ∙ ap (λ (p : Parsed). before is p) (expression-next here after rest b i parts other e shorter) ∙ before-step is i (expression_at rest)
-    ∙ ap (λ (xs : List Instruction). before xs (expression_at rest)) (sym push)
+    so_far ∙ ap (λ (p : Parsed). before is p) (expression-next here after rest b i parts other e shorter) ∙ before-step is i (first_expression_at rest)
+    ∙ ap (λ (xs : List Instruction). before xs (first_expression_at rest)) (sym push)
 
-pub ended_found : (bytes here after : List ℕ) (b : ℕ) (is : List Instruction) → expression_at bytes ≡ before is (expression_at here) → here ≡ b ∷ after → b ≡ 0x0B → expression_at bytes ≡ Some (is, after)
+pub ended_found : (bytes here after : List ℕ) (b : ℕ) (is : List Instruction) → first_expression_at bytes ≡ before is (first_expression_at here) → here ≡ b ∷ after
+    → b ≡ 0x0B → first_expression_at bytes ≡ Some (is, after)
 ended_found bytes here after b is so_far parts end =
     so_far ∙ ap (λ (p : Parsed). before is p) (expression-end here after b parts end) ∙ ap (λ (xs : List Instruction). read_as xs after) (append-nil is)
 
-pub ended_bad : (bytes here : List ℕ) (is : List Instruction) → expression_at bytes ≡ before is (expression_at here) → expression_at here ≡ None → expression_at bytes ≡ None
+pub ended_bad : (bytes here : List ℕ) (is : List Instruction) → first_expression_at bytes ≡ before is (first_expression_at here) → first_expression_at here ≡ None
+    → first_expression_at bytes ≡ None
 ended_bad bytes here is so_far none = so_far ∙ ap (λ (p : Parsed). before is p) none

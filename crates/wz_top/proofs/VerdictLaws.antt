@@ -11,9 +11,9 @@ use Rattle.std.proofs.lemmas.List.Elements.{All-nil, All-cons, All-head, All-tai
 use Rattle.std.proofs.Math.ListN.{length-map}
 use Rattle.wz_bytes.proofs.FormLaws.{all_found, all_again}
 use Rattle.wz_bytes.proofs.ReadingLemmas.{some_is, guarded, none_given}
-use Rattle.wz_top.specs.FirstGrammar.{Module, Export, Spells, AreSections, header}
+use Rattle.wz_top.specs.FirstGrammar.{FirstModule, FirstExport, Spells, AreSections, header}
 use Rattle.wz_top.specs.FirstReading.{module_at, sections_at}
-use Rattle.wz_top.specs.FirstRun.{State, IsFirst, IsGoing, Leaves, IsTargetOk, AreDistinct, initialize}
+use Rattle.wz_top.specs.FirstRun.{FirstState, IsFirst, IsGoing, Leaves, IsTargetOk, AreDistinct, initialize}
 use Rattle.wz_top.specs.FirstViews.{export_view, module_view}
 use Rattle.wz_top.specs.FirstWriter.{output, report}
 use Rattle.wz_top.specs.declared.first_grammar.Module.{Module as ModuleStruct}
@@ -28,7 +28,7 @@ use Rattle.wz_top.proofs.FirstLaws.{sections_exact}
 
 -- ---- one module
 
-pub module_found : (bytes : List ℕ) (m : Module) → module_at bytes ≡ Some m → Spells bytes m
+pub module_found : (bytes : List ℕ) (m : FirstModule) → module_at bytes ≡ Some m → Spells bytes m
 module_found bytes m e =
     let g = guarded (starts_with nat_eq bytes header) _ _ e in
     let front : header ≡ take 8 bytes = same_text header (take 8 bytes) (sym g.0) in
@@ -38,25 +38,25 @@ module_found bytes m e =
       spelled = all_found AreSections sections_at sections_exact (drop 8 bytes) m g.1;
     }
 
-pub module_again : (bytes : List ℕ) (m : Module) → Spells bytes m → module_at bytes ≡ Some m
+pub module_again : (bytes : List ℕ) (m : FirstModule) → Spells bytes m → module_at bytes ≡ Some m
 module_again bytes m h = ap (λ (b : List ℕ). module_at b) h.whole ∙ all_again AreSections sections_at sections_exact h.sections m h.spelled
 
 abbrev given : {A : Type 0} → A → Option A
 given x = Some x
 
-one_module : (bytes : List ℕ) (a b : Module) → Spells bytes a → Spells bytes b → a ≡ b
+one_module : (bytes : List ℕ) (a b : FirstModule) → Spells bytes a → Spells bytes b → a ≡ b
 one_module bytes a b p q = some_is a b (sym (module_again bytes a p) ∙ module_again bytes b q)
 
-state_is : (a b : State) → given a ≡ given b → a ≡ b
+state_is : (a b : FirstState) → given a ≡ given b → a ≡ b
 state_is a b e = some_is a b e
 
 one_reached : (is : List Instruction) (globals a b : List Global) → Leaves is globals a → Leaves is globals b → a ≡ b
-one_reached is globals a b p q = ap (λ (s : State). s.globals) (state_is _ _ (sym p ∙ q))
+one_reached is globals a b p q = ap (λ (s : FirstState). s.globals) (state_is _ _ (sym p ∙ q))
 
-one_first : (bytes : List ℕ) (m n : Module) (a b : List Global) → IsFirst bytes m a → IsFirst bytes n b → (m ≡ n) × (a ≡ b)
+one_first : (bytes : List ℕ) (m n : FirstModule) (a b : List Global) → IsFirst bytes m a → IsFirst bytes n b → (m ≡ n) × (a ≡ b)
 one_first bytes m n a b p q =
     let same : m ≡ n = one_module bytes m n p.spelled q.spelled in
-    (same, one_reached n.instructions n.globals a b (subst (λ (k : Module). Leaves k.instructions k.globals a) same p.goes.runs) q.goes.runs)
+    (same, one_reached n.instructions n.globals a b (subst (λ (k : FirstModule). Leaves k.instructions k.globals a) same p.goes.runs) q.goes.runs)
 
 -- ---- what the steps find
 
@@ -64,22 +64,22 @@ pub not_read : (bytes : List ℕ) → module_at bytes ≡ None → IsVerdict byt
 unfolding IsVerdict
 not_read bytes none = λ m reached first. none_given m (module_at bytes) none (module_again bytes m first.spelled)
 
-pub not_going : (bytes : List ℕ) (m : Module) → module_at bytes ≡ Some m → ((reached : List Global) → IsGoing m reached → ⊥) → IsVerdict bytes (Refuses NotYet)
+pub not_going : (bytes : List ℕ) (m : FirstModule) → module_at bytes ≡ Some m → ((reached : List Global) → IsGoing m reached → ⊥) → IsVerdict bytes (Refuses NotYet)
 unfolding IsVerdict
 not_going bytes m e none = λ n reached first.
     let same : n ≡ m = one_module bytes n m first.spelled (module_found bytes m e) in
-    none reached (subst (λ (k : Module). IsGoing k reached) same first.goes)
+    none reached (subst (λ (k : FirstModule). IsGoing k reached) same first.goes)
 
-goes_first : (bytes : List ℕ) (m : Module) (reached : List Global) → module_at bytes ≡ Some m → IsGoing m reached → IsFirst bytes m reached
+goes_first : (bytes : List ℕ) (m : FirstModule) (reached : List Global) → module_at bytes ≡ Some m → IsGoing m reached → IsFirst bytes m reached
 goes_first bytes m reached e goes = record { spelled = module_found bytes m e; goes = goes }
 
-pub no_init : (bytes : List ℕ) (m : Module) (reached : List Global) (o : Outcome) → module_at bytes ≡ Some m → IsGoing m reached → HasNoInit m → IsNoInit o → IsRefusedBy bytes o
+pub no_init : (bytes : List ℕ) (m : FirstModule) (reached : List Global) (o : Outcome) → module_at bytes ≡ Some m → IsGoing m reached → HasNoInit m → IsNoInit o → IsRefusedBy bytes o
 unfolding IsVerdict
 no_init bytes m reached NoMemory e goes none is = tt
 no_init bytes m reached (Exports (fault.NoInit name)) e goes none is = (m, reached, goes_first bytes m reached e goes, none, is)
 no_init bytes m reached o e goes none is = absurd is
 
-pub gives : (bytes : List ℕ) (m : Module) (reached : List Global) (said : Report) (right : List ℕ) → module_at bytes ≡ Some m → IsGoing m reached → HasInit m
+pub gives : (bytes : List ℕ) (m : FirstModule) (reached : List Global) (said : Report) (right : List ℕ) → module_at bytes ≡ Some m → IsGoing m reached → HasInit m
     → said ≡ report m reached → right ≡ output m reached → IsVerdict bytes (Gives said right)
 unfolding IsVerdict
 gives bytes m reached said right e goes init said-is right-is = (m, reached, goes_first bytes m reached e goes, init, said-is, right-is)
@@ -87,21 +87,21 @@ gives bytes m reached said right e goes init said-is right-is = (m, reached, goe
 -- ---- one verdict
 
 record OfInit (bytes : List ℕ) (v : Verdict) : Type 0 where
-  first : Module
+  first : FirstModule
   reached : List Global
   is : IsFirst bytes first reached
   init : HasInit first
   made : v ≡ Gives (report first reached) (output first reached)
 
 record OfNoInit (bytes : List ℕ) (v : Verdict) : Type 0 where
-  first : Module
+  first : FirstModule
   reached : List Global
   is : IsFirst bytes first reached
   none : HasNoInit first
   made : v ≡ Refuses (Exports (fault.NoInit initialize))
 
 record OfNone (bytes : List ℕ) (v : Verdict) : Type 0 where
-  none : (first : Module) (reached : List Global) → IsFirst bytes first reached → ⊥
+  none : (first : FirstModule) (reached : List Global) → IsFirst bytes first reached → ⊥
   made : v ≡ Refuses NotYet
 
 data Kind (bytes : List ℕ) (v : Verdict) : Type 0 where
@@ -118,9 +118,9 @@ kind_of bytes (Gives said right) h =
     init (record { first = h.0; reached = h.1; is = h.2; init = h.3; made = ap (λ (r : Report). Gives r right) h.4 ∙ ap (λ (b : List ℕ). Gives (report h.0 h.1) b) h.5 })
 kind_of bytes v h = absurd h
 
-not_both : (m : Module) → HasInit m → HasNoInit m → ⊥
+not_both : (m : FirstModule) → HasInit m → HasNoInit m → ⊥
 not_both m any all =
-    subst (λ (e : Export). e.name ≢ initialize) any.3 (All-get_or (λ e. e.name ≢ initialize) m.exports any.0 any.1 any.2 all) any.4
+    subst (λ (e : FirstExport). e.name ≢ initialize) any.3 (All-get_or (λ e. e.name ≢ initialize) m.exports any.0 any.1 any.2 all) any.4
 
 pub one_verdict : (bytes : List ℕ) (v w : Verdict) → IsVerdict bytes v → IsVerdict bytes w → v ≡ w
 one_verdict bytes v w a b = by (kind_of bytes v a) (kind_of bytes w b) where
@@ -132,14 +132,14 @@ one_verdict bytes v w a b = by (kind_of bytes v a) (kind_of bytes w b) where
   by (missing p) (missing q) = p.made ∙ sym q.made
   by (missing p) (init q) =
       let same = one_first bytes p.first q.first p.reached q.reached p.is q.is in
-      absurd (not_both q.first q.init (subst (λ (m : Module). HasNoInit m) same.0 p.none))
+      absurd (not_both q.first q.init (subst (λ (m : FirstModule). HasNoInit m) same.0 p.none))
   by (init p) (nothing q) = absurd (q.none p.first p.reached p.is)
   by (init p) (missing q) =
       let same = one_first bytes p.first q.first p.reached q.reached p.is q.is in
-      absurd (not_both q.first (subst (λ (m : Module). HasInit m) same.0 p.init) q.none)
+      absurd (not_both q.first (subst (λ (m : FirstModule). HasInit m) same.0 p.init) q.none)
   by (init p) (init q) =
       let same = one_first bytes p.first q.first p.reached q.reached p.is q.is in
-      p.made ∙ ap (λ (m : Module). Gives (report m p.reached) (output m p.reached)) same.0 ∙ ap (λ (r : List Global). Gives (report q.first r) (output q.first r)) same.1 ∙ sym q.made
+      p.made ∙ ap (λ (m : FirstModule). Gives (report m p.reached) (output m p.reached)) same.0 ∙ ap (λ (r : List Global). Gives (report q.first r) (output q.first r)) same.1 ∙ sym q.made
 
 -- ---- exports, as they are read and as they are kept
 
@@ -162,22 +162,22 @@ none_any P (x ∷ xs) never =
 pub goes_by : (m : ModuleStruct) (reached : List Global) → AreDistinct (map (λ e. e.name.now) m.exports.items)
     → All (λ e. IsTargetOk e.target e.name.now m.globals.items) m.exports.items → Leaves m.instructions.items m.globals.items reached → IsGoing (module_view m) reached
 goes_by m reached distinct targets leaves = record {
-  distinct = subst (λ (names : List (List ℕ)). AreDistinct names) (sym (map-map (λ (e : Export). e.name) export_view m.exports.items)) distinct;
-  targets = All-map (λ (e : Export). IsTargetOk e.target e.name m.globals.items) export_view m.exports.items targets;
+  distinct = subst (λ (names : List (List ℕ)). AreDistinct names) (sym (map-map (λ (e : FirstExport). e.name) export_view m.exports.items)) distinct;
+  targets = All-map (λ (e : FirstExport). IsTargetOk e.target e.name m.globals.items) export_view m.exports.items targets;
   runs = leaves;
 }
 
 pub names_go : (m : ModuleStruct) (reached : List Global) → IsGoing (module_view m) reached → AreDistinct (map (λ e. e.name.now) m.exports.items)
-names_go m reached goes = subst (λ (names : List (List ℕ)). AreDistinct names) (map-map (λ (e : Export). e.name) export_view m.exports.items) goes.distinct
+names_go m reached goes = subst (λ (names : List (List ℕ)). AreDistinct names) (map-map (λ (e : FirstExport). e.name) export_view m.exports.items) goes.distinct
 
 pub targets_go : (m : ModuleStruct) (reached : List Global) → IsGoing (module_view m) reached → All (λ e. IsTargetOk e.target e.name.now m.globals.items) m.exports.items
-targets_go m reached goes = all_unmap (λ (e : Export). IsTargetOk e.target e.name m.globals.items) export_view m.exports.items goes.targets
+targets_go m reached goes = all_unmap (λ (e : FirstExport). IsTargetOk e.target e.name m.globals.items) export_view m.exports.items goes.targets
 
 pub init_by : (m : ModuleStruct) → Any (λ e. e.name.now ≡ initialize) m.exports.items → HasInit (module_view m)
-init_by m any = any_map (λ (e : Export). e.name ≡ initialize) export_view m.exports.items any
+init_by m any = any_map (λ (e : FirstExport). e.name ≡ initialize) export_view m.exports.items any
 
 pub no_init_by : (m : ModuleStruct) → (Any (λ e. e.name.now ≡ initialize) m.exports.items → ⊥) → HasNoInit (module_view m)
-no_init_by m never = All-map (λ (e : Export). e.name ≢ initialize) export_view m.exports.items (none_any (λ e. e.name.now ≡ initialize) m.exports.items never)
+no_init_by m never = All-map (λ (e : FirstExport). e.name ≢ initialize) export_view m.exports.items (none_any (λ e. e.name.now ≡ initialize) m.exports.items never)
 
 pub absent : (b : Bool) (P : Type 0) → (IsTrue b → P) × (P → IsTrue b) → b ≡ false → P → ⊥
 absent b P tells is h = let e = tells.1 h in absurd (let f : true ≡ false = sym e ∙ is in cc)

@@ -11,16 +11,16 @@ use Rattle.wz_top.specs.declared.first_grammar.Target.TheVariants as target
 use Rattle.wz_top.specs.declared.first_grammar.Instruction.{Instruction}
 use Rattle.wz_top.specs.declared.first_grammar.Instruction.TheVariants as instruction
 
-pub record Export : Type 0 where
+pub record FirstExport : Type 0 where
   pub name : List ℕ
   pub target : Target
 
 -- the payloads of the sections that are kept, and what the other sections and the code hold
-pub record Module : Type 0 where
+pub record FirstModule : Type 0 where
   pub types : List ℕ
   pub functions : List ℕ
   pub globals : List Global
-  pub exports : List Export
+  pub exports : List FirstExport
   pub code : List ℕ
   pub instructions : List Instruction
 
@@ -54,10 +54,10 @@ IsInstruction text (instruction.GlobalSet index) = Tagged 0x24 IsIndex text inde
 IsInstruction text instruction.Add = text ≡ 0x6A ∷ []
 
 -- the instructions one behind the other, and 0B at the end
-abbrev pub IsExpression : List ℕ → List Instruction → Type 0
-IsExpression text [] = text ≡ 0x0B ∷ []
-IsExpression text (next ∷ others) =
-    (head tail : List ℕ) × (text ≡ head ++ tail) × IsInstruction head next × IsExpression tail others
+abbrev pub IsFirstExpression : List ℕ → List Instruction → Type 0
+IsFirstExpression text [] = text ≡ 0x0B ∷ []
+IsFirstExpression text (next ∷ others) =
+    (head tail : List ℕ) × (text ≡ head ++ tail) × IsInstruction head next × IsFirstExpression tail others
 
 -- ---- section 5.5: the contents of the sections
 
@@ -73,29 +73,29 @@ abbrev pub IsMutability : List ℕ → Bool → Type 0
 IsMutability text false = text ≡ 0 ∷ []
 IsMutability text true = text ≡ 1 ∷ []
 
-abbrev pub global_of : Bool × (ℕ × Unit {0}) → Global
-global_of x = record { mutable = x.0; value = x.1.0 }
+abbrev pub first_global_of : Bool × (ℕ × Unit {0}) → Global
+first_global_of x = record { mutable = x.0; value = x.1.0 }
 
 -- a global of type i32, constant or mutable, initialised by one `i32.const`
 abbrev pub IsGlobal : List ℕ → Global → Type 0
 IsGlobal text global =
-    Made global_of (Tagged 0x7F (Both IsMutability (Tagged 0x41 (Both IsInteger IsEnd)))) text global
+    Made first_global_of (Tagged 0x7F (Both IsMutability (Tagged 0x41 (Both IsInteger IsEnd)))) text global
 
 -- function 0, or a global
-abbrev pub IsTarget : List ℕ → Target → Type 0
-IsTarget text target.Function = Tagged 0x00 (IsNumber 0) text tt
-IsTarget text (target.Global index) = Tagged 0x03 IsIndex text index
+abbrev pub IsFirstTarget : List ℕ → Target → Type 0
+IsFirstTarget text target.Function = Tagged 0x00 (IsNumber 0) text tt
+IsFirstTarget text (target.Global index) = Tagged 0x03 IsIndex text index
 
-abbrev pub export_of : List ℕ × Target → Export
-export_of x = record { name = x.0; target = x.1 }
+abbrev pub first_export_of : List ℕ × Target → FirstExport
+first_export_of x = record { name = x.0; target = x.1 }
 
-abbrev pub IsExport : List ℕ → Export → Type 0
-IsExport text export = Made export_of (Both IsName IsTarget) text export
+abbrev pub IsFirstExport : List ℕ → FirstExport → Type 0
+IsFirstExport text export = Made first_export_of (Both IsName IsFirstTarget) text export
 
 -- one code entry, without locals
 abbrev pub IsOneBody : List ℕ → List Instruction → Type 0
 IsOneBody text instructions =
-    Made (λ x. x.1) (Both (IsNumber 1) (Sized (λ t is. Made (λ x. x.1) (Both (IsNumber 0) IsExpression) t is))) text instructions
+    Made (λ x. x.1) (Both (IsNumber 1) (Sized (λ t is. Made (λ x. x.1) (Both (IsNumber 0) IsFirstExpression) t is))) text instructions
 
 -- ---- the whole
 
@@ -105,8 +105,8 @@ IsSection id Spells text x = Tagged id (Sized Spells) text x
 abbrev pub header : List ℕ
 header = 0x00 ∷ 0x61 ∷ 0x73 ∷ 0x6D ∷ 0x01 ∷ 0x00 ∷ 0x00 ∷ 0x00 ∷ []
 
-abbrev pub module_of : (List ℕ × Unit {0}) × ((List ℕ × Unit {0}) × (List Global × (List Export × (List ℕ × List Instruction)))) → Module
-module_of x = record {
+abbrev pub first_module_of : (List ℕ × Unit {0}) × ((List ℕ × Unit {0}) × (List Global × (List FirstExport × (List ℕ × List Instruction)))) → FirstModule
+first_module_of x = record {
   types = x.0.0;
   functions = x.1.0.0;
   globals = x.1.1.0;
@@ -116,17 +116,17 @@ module_of x = record {
 }
 
 -- the five sections, in this order
-abbrev pub AreSections : List ℕ → Module → Type 0
+abbrev pub AreSections : List ℕ → FirstModule → Type 0
 AreSections text first =
-    Made module_of
+    Made first_module_of
     (Both (IsSection 1 (WithText IsOneType))
     (Both (IsSection 3 (WithText IsOneFunction))
     (Both (IsSection 6 (IsVector IsGlobal))
-    (Both (IsSection 7 (IsVector IsExport))
+    (Both (IsSection 7 (IsVector IsFirstExport))
     (IsSection 10 (WithText IsOneBody)))))) text first
 
 -- section 5.5.16: the bytes spell the module
-pub record Spells (bytes : List ℕ) (first : Module) : Type 0 where
+pub record Spells (bytes : List ℕ) (first : FirstModule) : Type 0 where
   pub sections : List ℕ
   pub whole : bytes ≡ header ++ sections
   pub spelled : AreSections sections first

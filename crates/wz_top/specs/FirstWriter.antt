@@ -4,7 +4,7 @@ use Rattle.std.specs.List.{flat_map}
 use Rattle.std.specs.Int.{w32, cast_signed}
 use Rattle.std.specs.Cmp.Lexicographic.{pointwise}
 use Rattle.wz_bytes.specs.Shortest.{shortest_unsigned, shortest_signed}
-use Rattle.wz_top.specs.FirstGrammar.{Module, Export, header}
+use Rattle.wz_top.specs.FirstGrammar.{FirstModule, FirstExport, header}
 use Rattle.wz_top.specs.FirstRun.{initialize}
 use Rattle.wz_top.specs.declared.outcome.Report.{Report}
 use Rattle.wz_top.specs.declared.first_grammar.Global.{Global}
@@ -30,15 +30,15 @@ abbrev pub target_bytes : Target → List ℕ
 target_bytes target.Function = 0x00 ∷ shortest_unsigned 0
 target_bytes (target.Global index) = 0x03 ∷ shortest_unsigned index
 
-abbrev pub export : Export → List ℕ
+abbrev pub export : FirstExport → List ℕ
 export e = shortest_unsigned (length e.name) ++ e.name ++ target_bytes e.target
 
 -- all exports but that of the initialisation
-abbrev pub kept : List Export → List Export
+abbrev pub kept : List FirstExport → List FirstExport
 kept exports = filter (λ e. not (pointwise nat_eq e.name initialize)) exports
 
 -- the module with these values of its globals and without the initialisation's export
-abbrev pub output : Module → List Global → List ℕ
+abbrev pub output : FirstModule → List Global → List ℕ
 output first reached =
     header
     ++ section 1 first.types
@@ -48,7 +48,7 @@ output first reached =
     ++ section 10 first.code
 
 -- Each instruction is one tick, and so is leaving the function at its end.
-abbrev pub report : Module → List Global → Report
+abbrev pub report : FirstModule → List Global → Report
 report first reached = record {
   ticks = length first.instructions + 1;
   pages = 0;

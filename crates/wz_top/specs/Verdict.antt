@@ -1,6 +1,6 @@
 -- What the bytes of an input ask for.
 use Rattle.std.specs.Prelude.{◌≡◌, ◌≢◌, ℕ, List, All, Any, ⊤}
-use Rattle.wz_top.specs.FirstGrammar.{Module}
+use Rattle.wz_top.specs.FirstGrammar.{FirstModule}
 use Rattle.wz_top.specs.FirstRun.{IsFirst, initialize}
 use Rattle.wz_top.specs.FirstWriter.{output, report}
 use Rattle.wz_top.specs.declared.first_grammar.Global.{Global}
@@ -14,20 +14,20 @@ pub data Verdict : Type 0 where
   Refuses : Outcome → Verdict
   Gives : Report → List ℕ → Verdict
 
-abbrev pub HasInit : Module → Type 0
+abbrev pub HasInit : FirstModule → Type 0
 HasInit first = Any (λ export. export.name ≡ initialize) first.exports
 
-abbrev pub HasNoInit : Module → Type 0
+abbrev pub HasNoInit : FirstModule → Type 0
 HasNoInit first = All (λ export. export.name ≢ initialize) first.exports
 
 -- Bytes that are no module which goes through ask for `NotYet`, a module without the initialisation's export asks for
 -- `NoInit`, and any other for its output.
 unfoldable pub IsVerdict : List ℕ → Verdict → Type 0
-IsVerdict bytes (Refuses NotYet) = (first : Module) (reached : List Global) → IsFirst bytes first reached → ⊥
+IsVerdict bytes (Refuses NotYet) = (first : FirstModule) (reached : List Global) → IsFirst bytes first reached → ⊥
 IsVerdict bytes (Refuses (Exports (NoInit name))) =
-    (first : Module) × (reached : List Global) × IsFirst bytes first reached × HasNoInit first × (name ≡ initialize)
+    (first : FirstModule) × (reached : List Global) × IsFirst bytes first reached × HasNoInit first × (name ≡ initialize)
 IsVerdict bytes (Gives said right) =
-    (first : Module) × (reached : List Global) × IsFirst bytes first reached × HasInit first
+    (first : FirstModule) × (reached : List Global) × IsFirst bytes first reached × HasInit first
     × (said ≡ report first reached) × (right ≡ output first reached)
 IsVerdict bytes verdict = ⊥
 

@@ -2,7 +2,7 @@
 use Rattle.std.specs.Prelude.{ℕ, Bool, false, ◌&&◌, ◌==◌, not, if◌then◌else◌, List, [], ◌∷◌, Option, None, Some}
 use Rattle.wz_io.specs.World.{Name, File}
 
-pub record Names : Type 0 where
+pub record FileNames : Type 0 where
   pub input : Name
   pub output : Name
 
@@ -16,7 +16,7 @@ is_output_option (a ∷ b ∷ []) = a == 45 && b == 111
 is_output_option bytes = false
 
 -- The words are `IN -o OUT`, where neither path begins with a dash.
-abbrev pub names : List (List ℕ) → Option Names
+abbrev pub names : List (List ℕ) → Option FileNames
 names (input ∷ option ∷ output ∷ []) =
     if not (begins_with_dash input) && is_output_option option && not (begins_with_dash output)
     then Some (record { input = File input; output = File output })

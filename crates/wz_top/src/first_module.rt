@@ -2,7 +2,7 @@
 
 ghost use Rattle.std.specs.Prelude.{◌≡◌, Some, None, [], map, IfOk, IfSome, IsNone, IsErrOf};
 ghost use Rattle.wz_bytes.specs.Forms.{all_at, vector_at};
-ghost use Rattle.wz_top.specs.FirstReading.{section_at, with_text_at, one_type_at, one_function_at, one_body_at, global_at, export_at, expression_at, entry_at, instructions_in, sections_at, module_at};
+ghost use Rattle.wz_top.specs.FirstReading.{section_at, with_text_at, one_type_at, one_function_at, one_body_at, global_at, first_export_at, first_expression_at, first_entry_at, instructions_in, sections_at, module_at};
 ghost use Rattle.wz_top.specs.FirstViews.{export_view, module_view};
 
 use crate::first_grammar::{Export, Global, Instruction, Module};
@@ -11,11 +11,12 @@ use crate::first_reader::{
 };
 use crate::first_vector::{ReadFault, read_exports, read_globals};
 use std::alloc::Global as Heap;
+use wz_bytes::Cursor;
 
 /// The instructions in front, and the bytes behind their end.
 fn expression(alloc: Heap, bytes: &[u8]) -> Result<(Vec<Instruction>, &[u8]), ReadFault>
-    ensures found { IfOk result (λ r. expression_at bytes.now ≡ Some (r.0.items, r.1.now)) }
-    ensures bad { IsErrOf result ReadFault.Bad → expression_at bytes.now ≡ None }
+    ensures found { IfOk result (λ r. first_expression_at bytes.now ≡ Some (r.0.items, r.1.now)) }
+    ensures bad { IsErrOf result ReadFault.Bad → first_expression_at bytes.now ≡ None }
 {
     let mut instructions = Vec::new(alloc);
     let mut rest = bytes;
@@ -34,8 +35,8 @@ fn expression(alloc: Heap, bytes: &[u8]) -> Result<(Vec<Instruction>, &[u8]), Re
 
 /// A code entry without locals, in all of the bytes.
 fn entry(alloc: Heap, bytes: &[u8]) -> Result<Vec<Instruction>, ReadFault>
-    ensures found { IfOk result (λ r. all_at entry_at bytes.now ≡ Some r.items) }
-    ensures bad { IsErrOf result ReadFault.Bad → all_at entry_at bytes.now ≡ None }
+    ensures found { IfOk result (λ r. all_at first_entry_at bytes.now ≡ Some r.items) }
+    ensures bad { IsErrOf result ReadFault.Bad → all_at first_entry_at bytes.now ≡ None }
 {
     let Some(rest) = behind_number(0, bytes) else {
         return Err(ReadFault::Bad);
@@ -58,10 +59,14 @@ fn read_code(alloc: Heap, contents: &[u8]) -> Result<Vec<Instruction>, ReadFault
     let Some((size, rest)) = number(rest) else {
         return Err(ReadFault::Bad);
     };
-    if size as usize != rest.len() {
+    let mut cursor = Cursor::new(rest);
+    let Some(code) = cursor.take(size as usize) else {
+        return Err(ReadFault::Bad);
+    };
+    if !cursor.left().is_empty() {
         return Err(ReadFault::Bad);
     }
-    entry(alloc, rest)
+    entry(alloc, code)
 }
 
 /// The contents of the type section, and the bytes behind it.
@@ -102,8 +107,8 @@ fn globals_section(alloc: Heap, bytes: &[u8]) -> Result<(Vec<Global>, &[u8]), Re
 
 /// The exports, and the bytes behind their section.
 fn exports_section(alloc: Heap, bytes: &[u8]) -> Result<(Vec<Export<'_>>, &[u8]), ReadFault>
-    ensures found { IfOk result (λ r. section_at 7 (vector_at export_at) bytes.now ≡ Some (map export_view r.0.items, r.1.now)) }
-    ensures bad { IsErrOf result ReadFault.Bad → section_at 7 (vector_at export_at) bytes.now ≡ None }
+    ensures found { IfOk result (λ r. section_at 7 (vector_at first_export_at) bytes.now ≡ Some (map export_view r.0.items, r.1.now)) }
+    ensures bad { IsErrOf result ReadFault.Bad → section_at 7 (vector_at first_export_at) bytes.now ≡ None }
 {
     let Some((contents, rest)) = contents(7, bytes) else {
         return Err(ReadFault::Bad);

@@ -5,7 +5,7 @@ ghost use Rattle.std.specs.Option.{option_map};
 ghost use Rattle.wz_bytes.specs.Unsigned.{unsigned_at};
 ghost use Rattle.wz_bytes.specs.Name.{name_at};
 ghost use Rattle.wz_bytes.specs.Forms.{all_at};
-ghost use Rattle.wz_top.specs.FirstReading.{number_at, integer_at, mutability_at, global_at, target_at, export_at, instruction_at, one_type_at, one_function_at, contents_at};
+ghost use Rattle.wz_top.specs.FirstReading.{number_at, integer_at, mutability_at, global_at, target_at, first_export_at, instruction_at, one_type_at, one_function_at, contents_at};
 ghost use Rattle.wz_top.specs.FirstViews.{export_view};
 
 use crate::first_grammar::{Export, Global, Instruction, Target};
@@ -91,7 +91,7 @@ fn target(bytes: &[u8]) -> Option<(Target, &[u8])>
 }
 
 pub fn export(bytes: &[u8]) -> Option<(Export<'_>, &[u8])>
-    ensures exact { option_map (λ r. (export_view r.0, r.1.now)) result ≡ export_at bytes.now }
+    ensures exact { option_map (λ r. (export_view r.0, r.1.now)) result ≡ first_export_at bytes.now }
 {
     let (name, rest) = name(bytes)?;
     let (target, rest) = target(rest)?;

@@ -3,7 +3,7 @@
 ghost use Rattle.std.specs.Prelude.{◌≡◌, ℕ, List, [], Some, None, length, map, IfOk, IfSome, IsNone, IsErrOf};
 ghost use Rattle.wz_top.specs.FirstReading.{globals_in, exports_in};
 ghost use Rattle.wz_top.specs.FirstViews.{export_view};
-ghost use Rattle.wz_top.specs.FirstItems.{VectorRead, VectorBad, ItemsRead, ItemsBad, NotAll};
+ghost use Rattle.wz_top.specs.FirstItems.{FirstVectorRead, FirstVectorBad, FirstItemsRead, FirstItemsBad, FirstNotAll};
 ghost use Rattle.wz_top.specs.declared.first_vector.ReadFault.TheVariants.{Bad, NoMemory};
 
 use crate::first_grammar::{Export, Global};
@@ -54,8 +54,8 @@ fn read_items<'a, R: Reader<'a>>(
     bytes: &'a [u8],
 ) -> Result<(Vec<R::Item>, &'a [u8]), ReadFault>
     ensures length { IfOk result (λ r. length r.0.items ≡ count) }
-    ensures ok { IfOk result (λ r. ItemsRead R.reads bytes.now r.0.items r.1.now) }
-    ensures bad { IsErrOf result Bad → ItemsBad R.reads R.bad count bytes.now }
+    ensures ok { IfOk result (λ r. FirstItemsRead R.reads bytes.now r.0.items r.1.now) }
+    ensures bad { IsErrOf result Bad → FirstItemsBad R.reads R.bad count bytes.now }
 {
     let mut items = Vec::new(alloc);
     let mut rest = bytes;
@@ -71,8 +71,8 @@ fn read_items<'a, R: Reader<'a>>(
 
 /// All of the bytes as one vector.
 fn read_all<'a, R: Reader<'a>>(alloc: Heap, bytes: &'a [u8]) -> Result<Vec<R::Item>, ReadFault>
-    ensures ok { IfOk result (λ items. VectorRead R.reads bytes.now items.items []) }
-    ensures bad { IsErrOf result Bad → NotAll R.reads R.bad bytes.now }
+    ensures ok { IfOk result (λ items. FirstVectorRead R.reads bytes.now items.items []) }
+    ensures bad { IsErrOf result Bad → FirstNotAll R.reads R.bad bytes.now }
 {
     let Some((count, rest)) = number(bytes) else {
         return Err(ReadFault::Bad);
@@ -105,14 +105,14 @@ struct Exports;
 
 impl<'a> Reader<'a> for Exports {
     ghost use Rattle.std.specs.Prelude.{◌≡◌, Some, None};
-    ghost use Rattle.wz_top.specs.FirstReading.{export_at};
+    ghost use Rattle.wz_top.specs.FirstReading.{first_export_at};
     ghost use Rattle.wz_top.specs.FirstViews.{export_view};
 
     type Item = Export<'a>;
 
-    ghost reads = { λ bytes item rest. export_at bytes ≡ Some (export_view item, rest) };
+    ghost reads = { λ bytes item rest. first_export_at bytes ≡ Some (export_view item, rest) };
 
-    ghost bad = { λ bytes. export_at bytes ≡ None };
+    ghost bad = { λ bytes. first_export_at bytes ≡ None };
 
     fn read(bytes: &'a [u8]) -> Option<(Export<'a>, &'a [u8])> {
         export(bytes)

@@ -1,9 +1,11 @@
 //! Published modules and the answers to them, and devices that fail.
 
+ghost use Rattle.std.specs.Prelude.{◌<◌};
+
 use crate::{ExportFault, Outcome, wizer};
 use std::alloc::{AllocError, Global};
 use std::test::Fail;
-use wz_io::{CallKind, MemFiles, MemSink};
+use wz_io::{CallKind, INPUT_LIMIT, MemFiles, MemSink, Side};
 use wz_types::Text;
 
 const HEADER: &[u8] = b"\0asm\x01\0\0\0";
@@ -61,32 +63,35 @@ fn modules_go_through(rt: HostRuntime) -> Result<(), Fail> {
     let two_globals_after: &[u8] = b"\x06\x0B\x02\x7F\0\x41\x7E\x0B\x7F\x01\x41\x7E\x0B";
     let three: &[u8] = b"\x07\x1D\x03\x01g\x03\x81\0\x10wizer.initialize\0\0\x01f\0\0";
     let two: &[u8] = b"\x07\x09\x02\x01g\x03\x01\x01f\0\0";
-    let table: [([&[u8]; 5], u64, [&[u8]; 5]); 3] = [
+    let table: [(&str, [&[u8]; 5], u64, [&[u8]; 5]); 3] = [
         (
+            "one global",
             [TYPES, FUNCTIONS, GLOBALS, EXPORTS, CODE],
             3,
             [TYPES, FUNCTIONS, GLOBALS_AFTER, EXPORTS_AFTER, CODE],
         ),
         (
+            "a padded constant",
             [TYPES, FUNCTIONS, GLOBALS, EXPORTS, padded],
             3,
             [TYPES, FUNCTIONS, GLOBALS_AFTER, EXPORTS_AFTER, padded],
         ),
         (
+            "padded sizes",
             [padded_types, FUNCTIONS, two_globals, three, sum],
             7,
             [TYPES, FUNCTIONS, two_globals_after, two, sum],
         ),
     ];
-    for (pieces, ticks, after) in table {
+    for (name, pieces, ticks, after) in table {
         let (outcome, files) = answer(alloc, &pieces)?;
         let output = joined(alloc, &after)?;
         let Outcome::Done(report) = &outcome else {
-            panic!(rt; "{ticks} ticks: not done");
+            panic!(rt; "{name}: not done");
         };
-        assert_eq!(rt; report.ticks, ticks);
-        assert_eq!(rt; report.bytes, output.len() as u64);
-        assert!(rt; files.file("out.wasm") == Some(output.as_slice()));
+        assert_eq!(rt; report.ticks, ticks, "{name}");
+        assert_eq!(rt; report.bytes, output.len() as u64, "{name}");
+        assert!(rt; files.file("out.wasm") == Some(output.as_slice()), "{name}");
     }
     Ok(())
 }
@@ -151,15 +156,15 @@ fn a_module_without_an_initialisation_is_refused(rt: HostRuntime) -> Result<(), 
 #[test]
 fn other_words_are_not_yet_built(rt: HostRuntime) -> Result<(), Fail> {
     let alloc = rt.alloc();
-    let table: [&[&str]; 6] = [
-        &[],
-        &["in.wasm"],
-        &["in.wasm", "-o"],
-        &["in.wasm", "--output", "out.wasm"],
-        &["-", "-o", "out.wasm"],
-        &["in.wasm", "-o", "-"],
+    let table: [(&str, &[&str]); 6] = [
+        ("no words", &[]),
+        ("no output", &["in.wasm"]),
+        ("no path of an output", &["in.wasm", "-o"]),
+        ("another option", &["in.wasm", "--output", "out.wasm"]),
+        ("standard input", &["-", "-o", "out.wasm"]),
+        ("standard output", &["in.wasm", "-o", "-"]),
     ];
-    for words in table {
+    for (name, words) in table {
         let mut files = MemFiles::new(alloc, Vec::new(alloc), 16);
         files.put_file(
             "in.wasm",
@@ -167,23 +172,38 @@ fn other_words_are_not_yet_built(rt: HostRuntime) -> Result<(), Fail> {
         )?;
         let mut messages = MemSink::new(alloc, None);
         let outcome = wizer(alloc, &texts(alloc, words)?, &mut files, &mut messages);
-        assert!(rt; matches!(&outcome, Outcome::NotYet));
-        assert!(rt; files.file("out.wasm").is_none());
+        assert!(rt; matches!(&outcome, Outcome::NotYet), "{name}");
+        assert!(rt; files.file("out.wasm").is_none(), "{name}");
     }
     Ok(())
+}
+
+// The number of a call, counted from 1, as `MemFiles::fail` asks for.
+fn call_number(nth: u32) -> u32
+    ensures { 0 < result }
+{
+    nth.max(1)
+}
+
+fn is_fault_of(side: Side, outcome: &Outcome) -> bool {
+    match outcome {
+        Outcome::InputFault => side == Side::Input,
+        Outcome::OutputFault => side == Side::Output,
+        _ => false,
+    }
 }
 
 // How a run with a failing device ends, and how many bytes of the output are there, if it is.
 #[test]
 fn a_device_that_fails_is_named(rt: HostRuntime) -> Result<(), Fail> {
     let alloc = rt.alloc();
-    let table: [(CallKind, u32, u8, Option<usize>); 6] = [
-        (CallKind::OpenInput, 1, 1, None),
-        (CallKind::Read, 1, 1, None),
-        (CallKind::Read, 5, 1, None),
-        (CallKind::Create, 1, 2, None),
-        (CallKind::Write, 3, 2, Some(32)),
-        (CallKind::Close, 1, 2, Some(39)),
+    let table: [(CallKind, u32, Side, Option<usize>); 6] = [
+        (CallKind::OpenInput, 1, Side::Input, None),
+        (CallKind::Read, 1, Side::Input, None),
+        (CallKind::Read, 5, Side::Input, None),
+        (CallKind::Create, 1, Side::Output, None),
+        (CallKind::Write, 3, Side::Output, Some(32)),
+        (CallKind::Close, 1, Side::Output, Some(39)),
     ];
     let words = texts(alloc, &WORDS)?;
     let input = joined(alloc, &[TYPES, FUNCTIONS, GLOBALS, EXPORTS, CODE])?;
@@ -191,20 +211,15 @@ fn a_device_that_fails_is_named(rt: HostRuntime) -> Result<(), Fail> {
         alloc,
         &[TYPES, FUNCTIONS, GLOBALS_AFTER, EXPORTS_AFTER, CODE],
     )?;
-    for (kind, nth, side, held) in table {
+    for (kind, nth, side, length) in table {
         let mut files = MemFiles::new(alloc, Vec::new(alloc), 16);
         let mut messages = MemSink::new(alloc, None);
         files.put_file("in.wasm", input.clone()?)?;
-        files.fail(kind, nth.max(1))?;
+        files.fail(kind, call_number(nth))?;
         let outcome = wizer(alloc, &words, &mut files, &mut messages);
-        let is_named = match &outcome {
-            Outcome::InputFault => side == 1,
-            Outcome::OutputFault => side == 2,
-            _ => false,
-        };
-        assert!(rt; is_named, "{kind:?} {nth}");
+        assert!(rt; is_fault_of(side, &outcome), "{kind:?} {nth}");
         assert!(rt;
-            files.file("out.wasm") == held.and_then(|count| output.get(..count)),
+            files.file("out.wasm") == length.and_then(|count| output.get(..count)),
             "{kind:?} {nth}"
         );
     }
@@ -220,7 +235,7 @@ fn an_input_that_is_missing_or_too_long_makes_no_output(rt: HostRuntime) -> Resu
     let missing = wizer(alloc, &words, &mut files, &mut messages);
     assert!(rt; matches!(&missing, Outcome::InputFault));
     assert_eq!(rt; missing.code(), 3);
-    files.put_file("in.wasm", vec![in alloc; 0u8; 33_554_433]?)?;
+    files.put_file("in.wasm", vec![in alloc; 0u8; INPUT_LIMIT + 1]?)?;
     let long = wizer(alloc, &words, &mut files, &mut messages);
     assert!(rt; matches!(&long, Outcome::InputTooLong));
     assert!(rt; files.file("out.wasm").is_none());

@@ -25,7 +25,8 @@ pub fn wizer<F: Files, E: Sink>(
     messages: &mut E,
 ) -> Outcome
     // What was asked for was written, and the report is its own.
-    ensures done { OnDone result (Asks words.now (F.world files.old).told) (F.world files.old) (F.world files.new) }
+    ensures done { OnDone result (Asks words.now (F.world files.old).told)
+        (F.world files.old) (F.world files.new) }
 
     // A refusal comes only where it is asked for, and what is asked for is answered.
     ensures refusal { OnRefusal result (Asks words.now (F.world files.old).told) }
@@ -33,16 +34,20 @@ pub fn wizer<F: Files, E: Sink>(
         (asked : Asked) → Asks words.now (F.world files.old).told asked → IsAnswer asked result }
 
     // A fault comes only where that device failed, and for the output only where one is asked for.
-    ensures input_fault { OnInputFault result (names words.now) (F.world files.old) (F.world files.new) }
-    ensures output_fault { OnOutputFault result (Asks words.now (F.world files.old).told) (F.world files.old) (F.world files.new) }
+    ensures input_fault { OnInputFault result (names words.now)
+        (F.world files.old) (F.world files.new) }
+    ensures output_fault { OnOutputFault result (Asks words.now (F.world files.old).told)
+        (F.world files.old) (F.world files.new) }
 
     // What stays, and what an output holds that wasn't finished.
     ensures stays { Stays result (F.world files.old) (F.world files.new) }
-    ensures unfinished { OnUnfinished result (Asks words.now (F.world files.old).told) (F.world files.old) (F.world files.new) }
+    ensures unfinished { OnUnfinished result (Asks words.now (F.world files.old).told)
+        (F.world files.old) (F.world files.new) }
 
     // What can be done is done, but for want of memory.
     ensures complete { IsTold (names words.now) (F.world files.old).told →
-        IsComplete result (names words.now) (Asks words.now (F.world files.old).told) (F.world files.old) (F.world files.new) }
+        IsComplete result (names words.now) (Asks words.now (F.world files.old).told)
+        (F.world files.old) (F.world files.new) }
     ensures silent { E.said messages.new ≡ E.said messages.old }
 {
     let Some((input, output)) = read_words(words) else {
@@ -53,7 +58,8 @@ pub fn wizer<F: Files, E: Sink>(
 
 /// The steps from opening the input to closing the output.
 fn carry_out<F: Files>(alloc: Global, input: &str, output: &str, files: &mut F) -> Outcome
-    ensures ran { Ran result (Some (record { input = File input.now; output = File output.now })) (F.world files.old) (F.world files.new) }
+    ensures ran { Ran result (Some (record { input = File input.now; output = File output.now }))
+        (F.world files.old) (F.world files.new) }
 {
     let bytes = match fetch(alloc, files, FileName::Path(input)) {
         Ok(bytes) => bytes,

@@ -1,6 +1,7 @@
 //! What is made of the bytes of an input.
 
 ghost use Rattle.std.specs.Prelude.{◌≡◌, ◌<◌, ◌≤◌, ◌^◌, List, length, IfOk, IfErr, IfSome, IsNone};
+ghost use Rattle.wz_io.specs.Reading.{input_limit};
 ghost use Rattle.wz_top.specs.Verdict.{IsVerdict, Gives, IsRefusedBy, IsNoInit};
 ghost use Rattle.wz_top.specs.FirstWriter.{output, report};
 ghost use Rattle.wz_top.specs.FirstViews.{module_view};
@@ -18,7 +19,7 @@ use wz_types::Text;
 
 /// The output and its report, or the refusal.
 pub fn turn(alloc: Heap, bytes: &[u8]) -> Result<(Report, Vec<u8>), Outcome>
-    requires within { length bytes.now ≤ 33554432 }
+    requires within { length bytes.now ≤ input_limit }
     ensures made { IfOk result (λ made. IsVerdict bytes.now (Gives made.0 made.1.items)) }
     ensures refused { IfErr result (λ refusal. IsRefusedBy bytes.now refusal) }
 {
@@ -43,8 +44,10 @@ pub fn turn(alloc: Heap, bytes: &[u8]) -> Result<(Report, Vec<u8>), Outcome>
 
 /// The globals that the module's code leaves, where the module keeps its rules.
 fn reach(alloc: Heap, first: &Module<'_>) -> Result<Option<Vec<Global>>, AllocError>
-    ensures reached { IfOk result (λ r. IfSome r (λ reached. IsGoing (module_view first.now) reached.items)) }
-    ensures none { IfOk result (λ r. IsNone r → (reached : List Global) → ¬ (IsGoing (module_view first.now) reached)) }
+    ensures reached { IfOk result (λ r. IfSome r (λ reached.
+        IsGoing (module_view first.now) reached.items)) }
+    ensures none { IfOk result (λ r. IsNone r →
+        (reached : List Global) → ¬ (IsGoing (module_view first.now) reached)) }
 {
     if !have_distinct_names(alloc, &first.exports)? {
         return Ok(None);
@@ -71,7 +74,8 @@ fn finish(
     reached: &[Global],
 ) -> Result<(Report, Vec<u8>), AllocError>
     requires few { length first.now.instructions.items < 2 ^ 63 }
-    ensures output { IfOk result (λ made. made.1.items ≡ output (module_view first.now) reached.now) }
+    ensures output { IfOk result (λ made.
+        made.1.items ≡ output (module_view first.now) reached.now) }
     ensures report { IfOk result (λ made. made.0 ≡ report (module_view first.now) reached.now) }
 {
     let right = write_module(alloc, first, reached)?;

@@ -12,8 +12,8 @@ pub fn same_types_are_equal()
     ensures function_type { SameFunctionType }
 {}
 
-/// A value fits a type exactly where it has that type, a number's bits are those of its width, and the
-/// function that a reference names is there. So an i32 of 2^32 is none.
+/// A value fits a type exactly where it has that type, a number's bits are those of its width, and
+/// the function that a reference names is there. So an i32 of 2^32 is none.
 pub fn what_fits()
     ensures exactly { FitsExactly }
     ensures all { AllFitHaveTypes }

@@ -3,8 +3,8 @@
 //! Contracts see a `Text` as the list of its bytes, a `FuncType` as its two lists and a `Values` as
 //! the list of its items; all else is plain data. When a value may stand where a type is asked for
 //! is said once, by `Fits`, and `Value::fits` decides it: a number fits its type where its bits are
-//! those of the type's width. `laws` says what it is to fit, part by part, and that the tests by which
-//! definitions compare types are equality.
+//! those of the type's width. `laws` says what it is to fit, part by part, and that the tests by
+//! which definitions compare types are equality.
 #![tactic(auto)]
 
 mod function_type;

@@ -2,9 +2,10 @@ pub mod BlockLemmas
 pub mod BuildLemmas
 pub mod ChooseLemmas
 pub mod LawLemmas
-pub mod OuterLemmas
 pub mod RunLemmas
 pub mod StackLemmas
 pub mod TakeLemmas
 pub mod WaitingLemmas
 pub mod WalkLemmas
+pub mod WideningLemmas
+pub mod WidthLemmas

@@ -4,8 +4,8 @@ use Rattle.std.specs.Option.{option_map}
 use Rattle.std.proofs.lemmas.Option.{slice_get-get_or}
 use Rattle.std.proofs.lemmas.List.{get_or-replicate, length-replicate}
 use Rattle.wz_types.specs.declared.types.ValType.{ValType}
-use Rattle.wz_valid_code.specs.Context.{spread}
-use Rattle.wz_valid_code.specs.Runs.{ends_of, run_at, Rise}
+use Rattle.wz_valid_code.specs.Context.{locals_of_runs}
+use Rattle.wz_valid_code.specs.Runs.{ends_of, run_of_place, Rise}
 
 -- ---- of lists
 
@@ -48,14 +48,15 @@ ends-more before (r ∷ runs) run =
 
 -- ---- the run of a place
 
-run-step : (place end : ℕ) (ends : List ℕ) → end ≤ place → run_at place (end ∷ ends) ≡ run_at place ends + 1
+run-step : (place end : ℕ) (ends : List ℕ) → end ≤ place → run_of_place place (end ∷ ends) ≡ run_of_place place ends + 1
 run-step place end ends h = grind arith
 
-run-here : (place end : ℕ) (ends : List ℕ) → place < end → run_at place (end ∷ ends) ≡ 0
+run-here : (place end : ℕ) (ends : List ℕ) → place < end → run_of_place place (end ∷ ends) ≡ 0
 run-here place end ends h = grind arith
 
 -- the place that halving comes to
-pub run-found : (place : ℕ) (ends : List ℕ) (i : ℕ) → i ≤ length ends → ((j : ℕ) → j < i → get_or ends j 0 ≤ place) → (i < length ends → place < get_or ends i 0) → i ≡ run_at place ends
+pub run-found : (place : ℕ) (ends : List ℕ) (i : ℕ) → i ≤ length ends → ((j : ℕ) → j < i → get_or ends j 0 ≤ place) → (i < length ends → place < get_or ends i 0) → i
+    ≡ run_of_place place ends
 run-found place [] i le below above = omega arith
 run-found place (end ∷ ends) zero le below above = sym (run-here place end ends (above (omega arith)))
 run-found place (end ∷ ends) (suc i) le below above =
@@ -77,31 +78,36 @@ lt-from : (a b : ℕ) → nat_le a b ≡ false → b < a
 lt-from a b e = grind arith
 
 -- a local's type is that of its run
-pub run-type : (before place : ℕ) (runs : List (ℕ × ValType)) → before ≤ place → option_map (λ (run : ℕ × ValType). run.1) (slice_get runs (run_at place (ends_of before runs))) ≡ slice_get (spread runs) (place - before)
+pub run-type : (before place : ℕ) (runs : List (ℕ × ValType)) → before ≤ place → option_map (λ (run : ℕ × ValType). run.1)
+    (slice_get runs (run_of_place place (ends_of before runs))) ≡ slice_get (locals_of_runs runs) (place - before)
 run-type before place [] h = refl
 run-type before place (run ∷ runs) h = by (λ le. run-type (before + run.0) place runs le) (nat_le (before + run.0) place) refl
   where
-    by : (before + run.0 ≤ place → option_map (λ (run : ℕ × ValType). run.1) (slice_get runs (run_at place (ends_of (before + run.0) runs))) ≡ slice_get (spread runs) (place - (before + run.0))) → (b : Bool) → nat_le (before + run.0) place ≡ b → option_map (λ (run : ℕ × ValType). run.1) (slice_get (run ∷ runs) (run_at place (ends_of before (run ∷ runs)))) ≡ slice_get (spread (run ∷ runs)) (place - before)
+    by : (before + run.0 ≤ place → option_map (λ (run : ℕ × ValType). run.1) (slice_get runs (run_of_place place (ends_of (before + run.0) runs)))
+        ≡ slice_get (locals_of_runs runs) (place - (before + run.0))) → (b : Bool) → nat_le (before + run.0) place ≡ b
+        → option_map (λ (run : ℕ × ValType). run.1) (slice_get (run ∷ runs) (run_of_place place (ends_of before (run ∷ runs))))
+        ≡ slice_get (locals_of_runs (run ∷ runs)) (place - before)
     by more true e =
         let le : before + run.0 ≤ place = le-from (before + run.0) place e in
         let split : length (replicate run.0 run.1) + (place - (before + run.0)) ≡ place - before = simp length-replicate (omega arith) in
         ap (λ n. option_map (λ (run : ℕ × ValType). run.1) (slice_get (run ∷ runs) n)) (run-step place (before + run.0) (ends_of (before + run.0) runs) le)
-        ∙ ap (option_map (λ (run : ℕ × ValType). run.1)) (next-run run runs (run_at place (ends_of (before + run.0) runs)))
+        ∙ ap (option_map (λ (run : ℕ × ValType). run.1)) (next-run run runs (run_of_place place (ends_of (before + run.0) runs)))
         ∙ more le
-        ∙ sym (get-right (replicate run.0 run.1) (spread runs) (place - (before + run.0)))
-        ∙ ap (λ n. slice_get (replicate run.0 run.1 ++ spread runs) n) split
+        ∙ sym (get-right (replicate run.0 run.1) (locals_of_runs runs) (place - (before + run.0)))
+        ∙ ap (λ n. slice_get (replicate run.0 run.1 ++ locals_of_runs runs) n) split
     by more false e =
         let lt : place < before + run.0 = lt-from (before + run.0) place e in
         let within : place - before < run.0 = omega arith in
         ap (λ n. option_map (λ (run : ℕ × ValType). run.1) (slice_get (run ∷ runs) n)) (run-here place (before + run.0) (ends_of (before + run.0) runs) lt)
-        ∙ sym (get-left (replicate run.0 run.1) (spread runs) (place - before) (simp length-replicate within) ∙ replicate-get run.0 (place - before) run.1 within)
+        ∙ sym (get-left (replicate run.0 run.1) (locals_of_runs runs) (place - before) (simp length-replicate within) ∙ replicate-get run.0 (place - before) run.1 within)
 
-pub place-type : (ends : List ℕ) (runs : List (ℕ × ValType)) (place at : ℕ) → ends ≡ ends_of 0 runs → at ≡ run_at place ends → option_map (λ (run : ℕ × ValType). run.1) (slice_get runs at) ≡ slice_get (spread runs) place
+pub place-type : (ends : List ℕ) (runs : List (ℕ × ValType)) (place at : ℕ) → ends ≡ ends_of 0 runs → at ≡ run_of_place place ends
+    → option_map (λ (run : ℕ × ValType). run.1) (slice_get runs at) ≡ slice_get (locals_of_runs runs) place
 place-type ends runs place at e is =
     let whole : place - 0 ≡ place = omega arith in
-    ap (λ n. option_map (λ (run : ℕ × ValType). run.1) (slice_get runs n)) (is ∙ ap (run_at place) e)
+    ap (λ n. option_map (λ (run : ℕ × ValType). run.1) (slice_get runs n)) (is ∙ ap (run_of_place place) e)
     ∙ run-type 0 place runs (omega arith)
-    ∙ ap (slice_get (spread runs)) whole
+    ∙ ap (slice_get (locals_of_runs runs)) whole
 
 -- a place is that of a parameter, or counts from the first local behind them
 pub behind-params : (params rest : List ValType) (index : ℕ) → length params ≤ index → slice_get rest (index - length params) ≡ slice_get (params ++ rest) index

@@ -3,8 +3,8 @@ use Rattle.std.proofs.Common.{◌≡◌, List, [], ◌∷◌, Some, None, Bool, 
 use Rattle.wz_types.specs.declared.types.ValType.{ValType}
 use Rattle.wz_valid_code.specs.Operands.{Operands, pushed}
 use Rattle.wz_valid_code.specs.Rules.{Rule, Lead}
-use Rattle.wz_valid_code.specs.Checking.{Known, taken, after}
-use Rattle.wz_valid_code.proofs.StackLemmas.{Stands, after-complete, after-sound, taken-complete, taken-sound, pushed-stands, pushed-under}
+use Rattle.wz_valid_code.specs.Checking.{Known, after_taking, after_rule}
+use Rattle.wz_valid_code.proofs.StackLemmas.{Stands, after_rule-complete, after_rule-sound, after_taking-complete, after_taking-sound, pushed-stands, pushed-under}
 
 -- from some stack that the checker's stands for, the rest leads to the results
 abbrev pub Can : Bool → Known → List Rule → List ValType → Type 0
@@ -24,44 +24,50 @@ walk-start whole before results = record {
   sound = λ can. (let P : Operands → Type 0 = λ x. Lead whole x results in subst P (start-is before can.0 can.1) can.2);
 }
 
-pub walk-step : (whole : List Rule) (rule : Rule) (rules : List Rule) (start : Operands) (results : List ValType) (k new : Known) → Walked whole (rule ∷ rules) start results k → after rule k.items k.dead ≡ Some new → Walked whole rules start results new
+pub walk-step : (whole : List Rule) (rule : Rule) (rules : List Rule) (start : Operands) (results : List ValType) (k new : Known) → Walked whole (rule ∷ rules) start results k
+    → after_rule rule k.items k.dead ≡ Some new → Walked whole rules start results new
 walk-step whole rule rules start results k new w e = record {
   complete = λ f.
       let can = w.complete f in
-      let r = after-complete rule k.items k.dead can.0 can.2.0 can.1 can.2.1 in
+      let r = after_rule-complete rule k.items k.dead can.0 can.2.0 can.1 can.2.1 in
       let one : r.0 ≡ new = cc (r.1, e) in
       let P : Known → Type 0 = λ x. Stands false x.items x.dead can.2.0 in
       (can.2.0, subst P one r.2, can.2.2);
   sound = λ can.
-      let r = after-sound rule k.items k.dead new can.0 e can.1 in
+      let r = after_rule-sound rule k.items k.dead new can.0 e can.1 in
       w.sound (r.0, r.1, (can.0, r.2, can.2));
 }
 
-pub walk-stuck : (whole : List Rule) (rule : Rule) (rules : List Rule) (start : Operands) (results : List ValType) (k : Known) → Walked whole (rule ∷ rules) start results k → after rule k.items k.dead ≡ None → Lead whole start results → ⊥
+pub walk-stuck : (whole : List Rule) (rule : Rule) (rules : List Rule) (start : Operands) (results : List ValType) (k : Known) → Walked whole (rule ∷ rules) start results k
+    → after_rule rule k.items k.dead ≡ None → Lead whole start results → ⊥
 walk-stuck whole rule rules start results k w e f =
     let can = w.complete f in
-    let r = after-complete rule k.items k.dead can.0 can.2.0 can.1 can.2.1 in
+    let r = after_rule-complete rule k.items k.dead can.0 can.2.0 can.1 can.2.1 in
     cc (r.1, e)
 
-pub walk-ends : (whole : List Rule) (start : Operands) (results : List ValType) (k : Known) → Walked whole [] start results k → taken (reverse results) k.items k.dead ≡ Some [] → Lead whole start results
+pub walk-ends : (whole : List Rule) (start : Operands) (results : List ValType) (k : Known) → Walked whole [] start results k → after_taking (reverse results) k.items k.dead
+    ≡ Some [] → Lead whole start results
 walk-ends whole start results k w e =
-    let r = taken-sound true (reverse results) k.items [] k.dead [] e (nothing k.dead) in
+    let r = after_taking-sound true (reverse results) k.items [] k.dead [] e (nothing k.dead) in
     w.sound (r.0, r.1, r.2)
   where
     nothing : (dead : Bool) → Stands true [] dead []
     nothing true = tt
     nothing false = refl
 
-pub walk-short : (whole : List Rule) (start : Operands) (results : List ValType) (k : Known) → Walked whole [] start results k → ((left : Operands) → taken (reverse results) k.items k.dead ≡ Some left → left ≡ [] → ⊥) → Lead whole start results → ⊥
+pub walk-short : (whole : List Rule) (start : Operands) (results : List ValType) (k : Known) → Walked whole [] start results k
+    → ((left : Operands) → after_taking (reverse results) k.items k.dead ≡ Some left → left ≡ [] → ⊥) → Lead whole start results → ⊥
 walk-short whole start results k w short f =
     let can = w.complete f in
-    let r = taken-complete false (reverse results) k.items k.dead can.0 [] can.1 can.2 in
+    let r = after_taking-complete false (reverse results) k.items k.dead can.0 [] can.1 can.2 in
     short r.0 r.1 (empty r.0 k.dead r.2)
   where
     empty : (left : Operands) (dead : Bool) → Stands false left dead [] → left ≡ []
     empty [] dead h = refl
     empty (q ∷ left) dead h = absurd h
 
-pub walk-over : (whole : List Rule) (start : Operands) (results : List ValType) (k : Known) (left : Operands) (b : Bool) → Walked whole [] start results k → taken (reverse results) k.items k.dead ≡ Some left → IsTrue b ↔ (left ≡ []) → MatchBool b (Lead whole start results) (Lead whole start results → ⊥)
+pub walk-over : (whole : List Rule) (start : Operands) (results : List ValType) (k : Known) (left : Operands) (b : Bool) → Walked whole [] start results k
+    → after_taking (reverse results) k.items k.dead ≡ Some left → IsTrue b ↔ (left ≡ []) → MatchBool b (Lead whole start results) (Lead whole start results → ⊥)
 walk-over whole start results k left true w e h = walk-ends whole start results k w (e ∙ ap (λ (x : Operands). Some x) (h.0 refl))
-walk-over whole start results k left false w e h = walk-short whole start results k w (λ other e' none. let one : left ≡ other = cc in let wrong : IsTrue false = h.1 (one ∙ none) in absurd (cc))
+walk-over whole start results k left false w e h = walk-short whole start results k w
+    (λ other e' none. let one : left ≡ other = cc in let wrong : IsTrue false = h.1 (one ∙ none) in absurd (cc))

@@ -10,14 +10,24 @@ use Rattle.wz_code.specs.Trees.{Code, Leaf, arm_of}
 use Rattle.wz_valid_code.specs.Operands.{pushed}
 use Rattle.wz_valid_code.specs.Rules.{Rule, Exchange, rule_from}
 use Rattle.wz_valid_code.specs.Context.{TypingContext, Scope, Labels, shape_type}
-use Rattle.wz_valid_code.specs.Instructions.{rule_of, constant_instr_rule}
+use Rattle.wz_valid_code.specs.Instructions.{rule_of}
+use Rattle.wz_valid_code.specs.ConstantInstructions.{constant_instr_rule}
 use Rattle.wz_valid_code.specs.Typing.{IsTyped}
 
--- an instruction's rule, where `leaf` is the leaf that it is if it holds no others
+-- a block or a loop takes and gives what its type says; section 3.3.8
+abbrev pub block_rule : Option FunctionType → Rule
+block_rule type = rule_from type (λ type. Exchange type.params type.results)
+
+-- an if takes its condition besides
+abbrev pub if_rule : Option FunctionType → Rule
+if_rule type = rule_from type (λ type. Exchange (type.params ++ I32 ∷ []) type.results)
+
+-- An instruction's rule, where `leaf` is the leaf that it is if it holds no others. One that holds others and isn't named here
+-- has no rule, by `rule_of`.
 abbrev pub outer_rule : Scope → Labels → (Instr → Leaf) → Instr → Rule
-outer_rule scope labels leaf (Block shape body) = rule_from (shape_type scope.context shape) (λ type. Exchange type.params type.results)
-outer_rule scope labels leaf (Loop shape body) = rule_from (shape_type scope.context shape) (λ type. Exchange type.params type.results)
-outer_rule scope labels leaf (If shape first second) = rule_from (shape_type scope.context shape) (λ type. Exchange (type.params ++ I32 ∷ []) type.results)
+outer_rule scope labels leaf (Block shape body) = block_rule (shape_type scope.context shape)
+outer_rule scope labels leaf (Loop shape body) = block_rule (shape_type scope.context shape)
+outer_rule scope labels leaf (If shape first second) = if_rule (shape_type scope.context shape)
 outer_rule scope labels leaf instr = rule_of scope labels (leaf instr)
 
 abbrev pub outer_rules : Scope → Labels → (Instr → Leaf) → List Instr → List Rule
@@ -32,16 +42,19 @@ pub record Inner : Type 0 where
   pub before : List ValType
   pub results : List ValType
 
--- a branch to a loop goes to its start
+-- a branch to a loop goes to its start, and takes its parameters along
 abbrev pub inner_from : Labels → Option FunctionType → Bool → Option ℕ → List Inner
 inner_from labels None again block = []
-inner_from labels (Some type) again block = record { labels = (if again then type.params else type.results) ∷ labels; block = block; before = type.params; results = type.results } ∷ []
+inner_from labels (Some type) again block =
+    let carried : List ValType = (if again then type.params else type.results) in
+    record { labels = carried ∷ labels; block = block; before = type.params; results = type.results } ∷ []
 
 -- the blocks that an instruction names
 abbrev pub inner_of : Scope → Labels → Instr → List Inner
 inner_of scope labels (Block shape body) = inner_from labels (shape_type scope.context shape) false (Some body)
 inner_of scope labels (Loop shape body) = inner_from labels (shape_type scope.context shape) true (Some body)
-inner_of scope labels (If shape first second) = inner_from labels (shape_type scope.context shape) false (Some first) ++ inner_from labels (shape_type scope.context shape) false second
+inner_of scope labels (If shape first second) =
+    inner_from labels (shape_type scope.context shape) false (Some first) ++ inner_from labels (shape_type scope.context shape) false second
 inner_of scope labels instr = []
 
 abbrev pub inner_in : Scope → Labels → List Instr → List Inner

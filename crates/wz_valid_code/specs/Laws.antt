@@ -1,12 +1,15 @@
--- What holds of typing (sections 3.3.8 and 3.3.9 of the Core Specification), for the crates above.
-use Rattle.std.specs.Prelude.{◌≡◌, ℕ, List, IsTrue}
+-- What holds of typing (sections 3.3.1 to 3.3.10 of the Core Specification), for the crates above.
+use Rattle.std.specs.Prelude.{◌≡◌, ℕ, ◌<◌, ◌^◌, List, IsTrue}
 use Rattle.wz_types.specs.declared.types.ValType.{ValType}
 use Rattle.wz_code.specs.BodyParts.{BodyParts, block_at}
 use Rattle.wz_code.specs.BlockRule.{NamesRise}
-use Rattle.wz_code.specs.Trees.{Code, leaf_in, tree_of}
+use Rattle.wz_code.specs.declared.instr.Instr.TheVariants.{I32Const, I64Const, F32Const, F64Const}
+use Rattle.wz_code.specs.Trees.{Code, Leaf, Plain, leaf_in, tree_of}
 use Rattle.wz_valid_code.specs.Operands.{Operands}
-use Rattle.wz_valid_code.specs.Rules.{Lead}
-use Rattle.wz_valid_code.specs.Context.{Scope, Labels, has_number}
+use Rattle.wz_valid_code.specs.Rules.{Leads, Lead}
+use Rattle.wz_valid_code.specs.Context.{TypingContext, Scope, Labels, has_number}
+use Rattle.wz_valid_code.specs.Instructions.{rule_of}
+use Rattle.wz_valid_code.specs.ConstantInstructions.{constant_rule}
 use Rattle.wz_valid_code.specs.Typing.{IsTyped}
 use Rattle.wz_valid_code.specs.Blocks.{outer_rules, inner_in, AllTyped}
 
@@ -40,3 +43,17 @@ pub record Serves (scope other : Scope) : Type 0 where
 abbrev pub TypingServes : Type 0
 TypingServes = (scope other : Scope) → Serves scope other → (labels : Labels) (code : Code) (before : Operands) (after : List ValType)
     → IsTyped scope labels code before after → IsTyped other labels code before after
+
+-- a constant's bits are those of its width
+abbrev pub HasConstantWidth : Leaf → Type 0
+HasConstantWidth (Plain (I32Const bits)) = bits < 2 ^ 32
+HasConstantWidth (Plain (I64Const bits)) = bits < 2 ^ 64
+HasConstantWidth (Plain (F32Const bits)) = bits < 2 ^ 32
+HasConstantWidth (Plain (F64Const bits)) = bits < 2 ^ 64
+HasConstantWidth leaf = Unit {0}
+
+abbrev pub TypedHasWidth : Type 0
+TypedHasWidth = (scope : Scope) (labels : Labels) (leaf : Leaf) (before next : Operands) → Leads (rule_of scope labels leaf) before next → HasConstantWidth leaf
+
+abbrev pub ConstantHasWidth : Type 0
+ConstantHasWidth = (context : TypingContext) (leaf : Leaf) (before next : Operands) → Leads (constant_rule context leaf) before next → HasConstantWidth leaf

@@ -2,10 +2,11 @@ pub mod Operands
 pub mod Rules
 pub mod Context
 pub mod Instructions
+pub mod ConstantInstructions
 pub mod Typing
 pub mod Blocks
 pub mod Checking
-pub mod Effects
 pub mod Runs
 pub mod Waiting
 pub mod Laws
+pub mod Widening

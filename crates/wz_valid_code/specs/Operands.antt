@@ -2,6 +2,7 @@
 use Rattle.std.specs.Prelude.{◌≡◌, List, [], ◌∷◌, Option, Some, None, Bool, true, false, IsTrue}
 use Rattle.wz_types.specs.declared.types.ValType.{ValType}
 use Rattle.wz_types.specs.declared.types.ValType.TheVariants.{I32, I64, F32, F64, FuncRef, ExternRef}
+use Rattle.wz_types.specs.SameType.{same_type}
 
 -- an operand's type: None is `any`, which only code behind an unconditional branch can have
 abbrev pub Operand : Type 0
@@ -11,29 +12,22 @@ Operand = Option ValType
 abbrev pub Operands : Type 0
 Operands = List (Option ValType)
 
-abbrev pub same : ValType → ValType → Bool
-same I32 I32 = true
-same I64 I64 = true
-same F32 F32 = true
-same F64 F64 = true
-same FuncRef FuncRef = true
-same ExternRef ExternRef = true
-same a b = false
-
 -- `any` fits every type that is asked for
 abbrev pub fits : Operand → ValType → Bool
 fits None asked = true
-fits (Some found) asked = same found asked
+fits (Some found) asked = same_type found asked
 
-abbrev pub is_number : Operand → Bool
-is_number None = true
-is_number (Some I32) = true
-is_number (Some I64) = true
-is_number (Some F32) = true
-is_number (Some F64) = true
-is_number (Some FuncRef) = false
-is_number (Some ExternRef) = false
+-- a number type; section 2.3.1
+abbrev pub is_numeric : Operand → Bool
+is_numeric None = true
+is_numeric (Some I32) = true
+is_numeric (Some I64) = true
+is_numeric (Some F32) = true
+is_numeric (Some F64) = true
+is_numeric (Some FuncRef) = false
+is_numeric (Some ExternRef) = false
 
+-- a reference type; section 2.3.3
 abbrev pub is_reference : Operand → Bool
 is_reference None = true
 is_reference (Some FuncRef) = true

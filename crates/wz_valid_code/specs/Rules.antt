@@ -2,21 +2,23 @@
 use Rattle.std.specs.Prelude.{◌≡◌, ℕ, List, [], ◌∷◌, Option, Some, None, Bool, true, false, IsTrue, length, reverse}
 use Rattle.wz_types.specs.declared.types.ValType.{ValType}
 use Rattle.wz_types.specs.declared.types.ValType.TheVariants.{I32}
-use Rattle.wz_valid_code.specs.Operands.{Operand, Operands, fits, is_number, is_reference, Takes, pushed, Becomes}
+use Rattle.wz_valid_code.specs.Operands.{Operand, Operands, fits, is_numeric, is_reference, Takes, pushed, Becomes}
 
--- what an instruction does to the stack; lists of types stand in the order of pushing
+-- What an instruction does to the stack; lists of types stand in the order of pushing. Beside each the type that the standard
+-- gives such an instruction.
 pub data Rule : Type 0 where
-  -- takes operands of these types, and gives those
+  -- [t1*] → [t2*]: takes operands of these types, and gives those
   Exchange : List ValType → List ValType → Rule
-  -- takes operands of these types, and what follows it is never reached
+  -- [t1* t*] → [t2*], for any t1* and t2*: takes operands of these types t*, and what follows it is never reached
   Stop : List ValType → Rule
-  -- the same, after an i32, with one of these lists of types, all of one length
+  -- [t1* t* i32] → [t2*], for any t1* and t2*: the same after an i32, where the operands t* fit each of these lists of types,
+  -- all of one length
   Choose : List (List ValType) → Rule
-  -- takes one operand of any type
+  -- [t] → []: takes one operand of any type
   DropOne : Rule
-  -- takes an i32 and two operands of one type, which is a number's, and gives one of it
+  -- [t t i32] → [t], t a number type: takes an i32 and two operands of one type, and gives one of it
   SelectOne : Rule
-  -- takes a reference of either kind, and gives an i32
+  -- [t] → [i32], t a reference type: takes a reference of either kind, and gives an i32
   TestReference : Rule
   -- no typing has it
   NoRule : Rule
@@ -30,7 +32,7 @@ abbrev pub rule_if : Bool → Rule → Rule
 rule_if true rule = rule
 rule_if false rule = NoRule
 
--- operands of each of these lists of types could be taken
+-- operands that fit each of these lists of types could be taken
 abbrev pub TakesEach : List (List ValType) → Operands → Type 0
 TakesEach [] stack = Unit {0}
 TakesEach (types ∷ lists) stack = ((below : Operands) × Takes (reverse types) stack below) × TakesEach lists stack
@@ -53,7 +55,7 @@ Leads DropOne stack next = (operand : Operand) × (stack ≡ operand ∷ next)
 Leads SelectOne stack next =
     (condition : Operand) × (second : Operand) × (first : Operand) × (result : Operand) × (below : Operands)
     × (stack ≡ condition ∷ second ∷ first ∷ below) × IsTrue (fits condition I32)
-    × Becomes second result × Becomes first result × IsTrue (is_number result) × (next ≡ result ∷ below)
+    × Becomes second result × Becomes first result × IsTrue (is_numeric result) × (next ≡ result ∷ below)
 Leads TestReference stack next =
     (operand : Operand) × (below : Operands) × (stack ≡ operand ∷ below) × IsTrue (is_reference operand) × (next ≡ Some I32 ∷ below)
 Leads NoRule stack next = ⊥

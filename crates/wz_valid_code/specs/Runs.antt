@@ -8,9 +8,9 @@ ends_of before [] = []
 ends_of before (run ∷ runs) = (before + run.0) ∷ ends_of (before + run.0) runs
 
 -- the first run that ends behind this place
-abbrev pub run_at : ℕ → List ℕ → ℕ
-run_at place [] = 0
-run_at place (end ∷ ends) = if nat_le end place then run_at place ends + 1 else 0
+abbrev pub run_of_place : ℕ → List ℕ → ℕ
+run_of_place place [] = 0
+run_of_place place (end ∷ ends) = if nat_le end place then run_of_place place ends + 1 else 0
 
 -- no end lies before an earlier one
 abbrev pub Rise : List ℕ → Type 0

@@ -10,7 +10,8 @@ use Rattle.wz_code.specs.BodyParts.{BodyParts}
 use Rattle.wz_valid_code.specs.Operands.{Operands, Takes, pushed}
 use Rattle.wz_valid_code.specs.Rules.{Exchange, Leads}
 use Rattle.wz_valid_code.specs.Context.{TypingContext, Scope, Labels, scope_of, shape_type}
-use Rattle.wz_valid_code.specs.Instructions.{rule_of, constant_rule}
+use Rattle.wz_valid_code.specs.Instructions.{rule_of}
+use Rattle.wz_valid_code.specs.ConstantInstructions.{constant_rule}
 
 -- Instructions lead from the stack `before` to operands of just the types `after`, which stand in the order of pushing.
 abbrev pub IsTyped : Scope → Labels → Code → Operands → List ValType → Type 0

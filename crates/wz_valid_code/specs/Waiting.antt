@@ -10,7 +10,7 @@ use Rattle.wz_valid_code.specs.Context.{Scope}
 use Rattle.wz_valid_code.specs.Blocks.{Inner, outer_rules, arm_at}
 
 -- a block that waits, within so many others: what it takes and gives, and what a branch to it takes along
-pub record Pending : Type 0 where
+pub record WaitingBlock : Type 0 where
   pub block : Option ℕ
   pub depth : ℕ
   pub before : List ValType
@@ -18,29 +18,29 @@ pub record Pending : Type 0 where
   pub label : List ValType
 
 -- what is to be shown of it, where the labels around it stand first among these, the outermost first
-abbrev pub inner_at : List (List ValType) → Pending → Inner
+abbrev pub inner_at : List (List ValType) → WaitingBlock → Inner
 inner_at labels pending = record { labels = pending.label ∷ reverse (take pending.depth labels); block = pending.block; before = pending.before; results = pending.results }
 
-abbrev pub AllDeep : ℕ → List Pending → Type 0
+abbrev pub AllDeep : ℕ → List WaitingBlock → Type 0
 AllDeep depth [] = Unit {0}
 AllDeep depth (pending ∷ waiting) = (pending.depth ≡ depth) × AllDeep depth waiting
 
 -- the new list is the old one with these blocks behind it, all within the innermost label
-pub record Grown (labels : List (List ValType)) (old new : List Pending) (made : List Inner) : Type 0 where
-  pub added : List Pending
-  pub split : new ≡ old ++ added
-  pub inner : map (inner_at labels) added ≡ made
-  pub deep : AllDeep (length labels) added
+pub record Grown (labels : List (List ValType)) (old new : List WaitingBlock) (made : List Inner) : Type 0 where
+  pub new_blocks : List WaitingBlock
+  pub split : new ≡ old ++ new_blocks
+  pub inner : map (inner_at labels) new_blocks ≡ made
+  pub deep : AllDeep (length labels) new_blocks
 
 -- their depths rise from `low` to at most `high`
-abbrev pub Rises : ℕ → List Pending → ℕ → Type 0
-Rises low [] high = low ≤ high
-Rises low (pending ∷ waiting) high = (low ≤ pending.depth) × Rises pending.depth waiting high
+abbrev pub DepthsRise : ℕ → List WaitingBlock → ℕ → Type 0
+DepthsRise low [] high = low ≤ high
+DepthsRise low (pending ∷ waiting) high = (low ≤ pending.depth) × DepthsRise pending.depth waiting high
 
 -- the labels within the block that is taken up
-abbrev pub labels_in : List (List ValType) → Pending → List (List ValType)
+abbrev pub labels_in : List (List ValType) → WaitingBlock → List (List ValType)
 labels_in labels pending = take pending.depth labels ++ pending.label ∷ []
 
 -- the rules of the block that is taken up lead from what it takes to what it gives
-abbrev pub IsLed : Scope → (Instr → Leaf) → Blocks → List (List ValType) → Pending → Type 0
+abbrev pub IsLed : Scope → (Instr → Leaf) → Blocks → List (List ValType) → WaitingBlock → Type 0
 IsLed scope leaf blocks labels pending = Lead (outer_rules scope (reverse (labels_in labels pending)) leaf (arm_at blocks pending.block)) (pushed pending.before []) pending.results

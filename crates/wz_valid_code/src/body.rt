@@ -1,7 +1,8 @@
 //! Whether a body is typed (Core Specification 2.0, sections 3.3.9 and 3.4.1).
 
 ghost use Rattle.std.specs.Prelude.{◌≡◌, ◌∷◌, [], ◌<◌, ◌^◌, length, IfOk, OnOk, MatchBool, IsTrue, Err, reverse};
-ghost use Rattle.wz_code.specs.Trees.{leaf_in, tree_of};
+ghost use Rattle.wz_code.specs.declared.instr.Instr.{Instr};
+ghost use Rattle.wz_code.specs.Trees.{Leaf, leaf_in, tree_of};
 ghost use Rattle.wz_code.specs.BlockRule.{IsBody};
 ghost use Rattle.wz_valid_code.specs.Context.{HasTypes};
 ghost use Rattle.wz_valid_code.specs.Typing.{IsTyped, IsBodyTyped};
@@ -12,9 +13,9 @@ use crate::block::check_block;
 use crate::context::Context;
 use crate::labels::Label;
 use crate::locals::Locals;
-use crate::pending::{Pending, add_all};
 use crate::scope::Scope;
 use crate::stack::Stack;
+use crate::waiting::{WaitingBlock, add_all};
 use std::alloc::{AllocError, Global};
 use wz_code::{Body, Instr, laws};
 use wz_types::FuncType;
@@ -40,7 +41,7 @@ pub fn code_of(body: &Body, block: Option<u32>) -> &[Instr]
     }
 }
 
-fn enter<'c>(labels: &mut Vec<Label<'c>>, next: &Pending<'c>) -> Result<(), AllocError>
+fn enter<'c>(labels: &mut Vec<Label<'c>>, next: &WaitingBlock<'c>) -> Result<(), AllocError>
     ensures { OnOk result (labels.new.items ≡ labels_in labels.old.items next.now) }
 {
     labels.truncate(next.depth);
@@ -52,14 +53,19 @@ fn enter<'c>(labels: &mut Vec<Label<'c>>, next: &Pending<'c>) -> Result<(), Allo
 fn turn<'c>(
     scope: &Scope<'c>,
     body: &Body,
-    next: &Pending<'c>,
+    next: &WaitingBlock<'c>,
     labels: &mut Vec<Label<'c>>,
-    waiting: &mut Vec<Pending<'c>>,
+    waiting: &mut Vec<WaitingBlock<'c>>,
     stack: &mut Stack,
 ) -> Result<bool, AllocError>
     ensures within { IfOk result (λ _. labels.new.items ≡ labels_in labels.old.items next.now) }
-    ensures led { let led = IsLed scope.now (λ i. leaf_in body.now i) body.now.blocks labels.old.items next.now in IfOk result (λ ok. MatchBool ok led (led → ⊥)) }
-    ensures grown { IfOk result (λ ok. IsTrue ok → Grown (labels_in labels.old.items next.now) waiting.old.items waiting.new.items (inner_in scope.now (reverse (labels_in labels.old.items next.now)) (arm_at body.now.blocks next.now.block))) }
+    ensures led { let leaf : Instr → Leaf = λ i. leaf_in body.now i in
+        let led = IsLed scope.now leaf body.now.blocks labels.old.items next.now in
+        IfOk result (λ ok. MatchBool ok led (led → ⊥)) }
+    ensures grown { let inside = labels_in labels.old.items next.now in
+        let code = arm_at body.now.blocks next.now.block in
+        let named = inner_in scope.now (reverse inside) code in
+        IfOk result (λ ok. IsTrue ok → Grown inside waiting.old.items waiting.new.items named) }
 {
     enter(labels, next)?;
     let code = code_of(body, next.block);
@@ -80,14 +86,18 @@ fn turn<'c>(
 
 /// Takes up one block after another, the last added first.
 fn is_typed(alloc: Global, scope: &Scope<'_>, body: &Body) -> Result<bool, AllocError>
-    ensures { let typed = IsTyped scope.now (scope.now.results ∷ []) (tree_of body.now 0) [] scope.now.results in IfOk result (λ ok. MatchBool ok typed (typed → ⊥)) }
+    ensures { let results = scope.now.results in
+        let typed = IsTyped scope.now (results ∷ []) (tree_of body.now 0) [] results in
+        IfOk result (λ ok. MatchBool ok typed (typed → ⊥)) }
 {
+    // the tree of a block is its instructions, each with the trees of the blocks that it names
     laws::tree_of_block();
+    // blocks name later ones alone, as that law asks
     let _kept = body.block_count();
     let mut labels: Vec<Label<'_>> = Vec::new(alloc);
-    let mut waiting: Vec<Pending<'_>> = Vec::new(alloc);
+    let mut waiting: Vec<WaitingBlock<'_>> = Vec::new(alloc);
     let mut stack = Stack::new(alloc);
-    waiting.push(Pending {
+    waiting.push(WaitingBlock {
         block: Some(0),
         depth: 0,
         before: &[],
@@ -108,8 +118,10 @@ fn is_body_typed(
     kind: &FuncType,
     body: &Body,
 ) -> Result<bool, AllocError>
-    ensures { let typed = IsBodyTyped context.now kind.now body.now in IfOk result (λ ok. MatchBool ok typed (typed → ⊥)) }
+    ensures { let typed = IsBodyTyped context.now kind.now body.now in
+        IfOk result (λ ok. MatchBool ok typed (typed → ⊥)) }
 {
+    // the body has fewer than 2^32 runs of locals
     let _kept = body.block_count();
     let scope = Scope {
         context,
@@ -119,8 +131,8 @@ fn is_body_typed(
     is_typed(alloc, &scope, body)
 }
 
-/// Checks the body of a function of type `kind`: it is refused as untyped exactly where no typing of it
-/// exists. The number of locals costs nothing, only the number of their runs does.
+/// Checks the body of a function of type `kind`: it is refused as untyped exactly where no typing
+/// of it exists. The number of locals costs nothing, only the number of their runs does.
 pub fn check_body(
     alloc: Global,
     context: &Context<'_>,
@@ -129,7 +141,8 @@ pub fn check_body(
 ) -> Result<(), BodyFault>
     requires { HasTypes context.now }
     ensures typed { OnOk result (IsBodyTyped context.now kind.now body.now) }
-    ensures untyped { result ≡ Err BodyFault.Untyped → IsBodyTyped context.now kind.now body.now → ⊥ }
+    ensures untyped { let typed = IsBodyTyped context.now kind.now body.now in
+        result ≡ Err BodyFault.Untyped → typed → ⊥ }
 {
     match is_body_typed(alloc, context, kind, body) {
         Ok(true) => Ok(()),

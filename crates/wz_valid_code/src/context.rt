@@ -1,27 +1,34 @@
 //! What instructions may name (Core Specification 2.0, section 3.1).
 
-ghost use Rattle.std.specs.Prelude.{◌≡◌, slice_get, nat_lt};
-ghost use Rattle.wz_valid_code.specs.Context.{TypingContext, shape_type, type_at, function_type, is_functions, is_one_kind, is_there, has_number, may_refer, settable, constant_global};
+ghost use Rattle.std.specs.Prelude.{◌≡◌, [], ◌∷◌, slice_get, nat_lt};
+ghost use Rattle.wz_valid_code.specs.Context.{TypingContext, shape_type, type_by_number, function_type, is_function_kind, is_one_kind, has_number, may_refer, type_to_set, constant_global};
 
-use crate::effect::one_of;
 use std::collections::BTreeSet;
 use std::marker::Model;
 use wz_code::Shape;
 use wz_types::{FuncType, GlobalType, RefKind, TableType, ValType};
 
-/// What the instructions of a module's bodies and expressions may name, imports first: the types, each
-/// function's type by its number, the tables, memories and globals, the kinds of the element segments,
-/// the number of data segments, and the functions that a reference may be made of.
+/// What the instructions of a module's bodies and expressions may name, imports first: the
+/// standard's context C.
 #[derive(Drop)]
 pub struct Context<'c> {
+    /// C.types.
     pub types: &'c [FuncType],
+    /// C.funcs: each function's type by its number.
     pub functions: &'c [u32],
+    /// C.tables.
     pub tables: &'c [TableType],
+    /// How many memories C.mems has.
     pub memories: u32,
+    /// C.globals.
     pub globals: &'c [GlobalType],
+    /// How many of the globals are imported, which constant expressions may read.
     pub imported_globals: u32,
+    /// C.elems: the kind of each element segment.
     pub elements: &'c [RefKind],
+    /// How many data segments C.datas has.
     pub datas: u32,
+    /// C.refs: the functions that a reference may be made of.
     pub declared: &'c BTreeSet<u32>,
 }
 
@@ -31,7 +38,17 @@ impl<'c> Model for Context<'c> {
 
     ghost Value = { TypingContext };
 
-    ghost view = { λ c. record { types = c.types.now; functions = c.functions.now; tables = map (λ table. table.kind) c.tables.now; memories = c.memories; globals = c.globals.now; imported_globals = c.imported_globals; elements = c.elements.now; datas = c.datas; declared = c.declared.now.keys } };
+    ghost view = { λ c. record {
+      types = c.types.now;
+      functions = c.functions.now;
+      tables = map (λ table. table.kind) c.tables.now;
+      memories = c.memories;
+      globals = c.globals.now;
+      imported_globals = c.imported_globals;
+      elements = c.elements.now;
+      datas = c.datas;
+      declared = c.declared.now.keys;
+    } };
 }
 
 /// The types that a block or a function takes and gives.
@@ -58,9 +75,23 @@ fn signature_of(kind: &FuncType) -> Signature<'_>
     }
 }
 
+/// This type alone.
+fn one_of(kind: ValType) -> &'static [ValType]
+    ensures { result.now ≡ kind ∷ [] }
+{
+    match kind {
+        ValType::I32 => &[ValType::I32],
+        ValType::I64 => &[ValType::I64],
+        ValType::F32 => &[ValType::F32],
+        ValType::F64 => &[ValType::F64],
+        ValType::FuncRef => &[ValType::FuncRef],
+        ValType::ExternRef => &[ValType::ExternRef],
+    }
+}
+
 impl<'c> Context<'c> {
     /// A type by its number.
-    pub fn type_at(&self, number: u32) -> Option<Signature<'c>>
+    pub fn type_by_number(&self, number: u32) -> Option<Signature<'c>>
         ensures { result ≡ slice_get self.now.types number }
     {
         match self.types.get(number as usize) {
@@ -74,7 +105,7 @@ impl<'c> Context<'c> {
         ensures { result ≡ function_type self.now function }
     {
         match self.functions.get(function as usize) {
-            Some(number) => self.type_at(*number),
+            Some(number) => self.type_by_number(*number),
             None => None,
         }
     }
@@ -92,7 +123,7 @@ impl<'c> Context<'c> {
                 params: &[],
                 results: one_of(kind),
             }),
-            Shape::Index(number) => self.type_at(number),
+            Shape::Index(number) => self.type_by_number(number),
         }
     }
 
@@ -106,7 +137,7 @@ impl<'c> Context<'c> {
     }
 
     pub fn is_function_table(&self, table: u32) -> bool
-        ensures { result ≡ is_functions (slice_get self.now.tables table) }
+        ensures { result ≡ is_function_kind (slice_get self.now.tables table) }
     {
         match self.table(table) {
             Some(RefKind::Func) => true,
@@ -140,8 +171,8 @@ impl<'c> Context<'c> {
     }
 
     /// The type of a global that may be set.
-    pub fn settable(&self, index: u32) -> Option<ValType>
-        ensures { result ≡ settable (slice_get self.now.globals index) }
+    pub fn type_to_set(&self, index: u32) -> Option<ValType>
+        ensures { result ≡ type_to_set (slice_get self.now.globals index) }
     {
         match self.globals.get(index as usize) {
             Some(global) => if global.mutable {

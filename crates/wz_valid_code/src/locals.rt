@@ -1,8 +1,8 @@
 //! A function's locals, kept as runs of one type each.
 
 ghost use Rattle.std.specs.Prelude.{◌≡◌, ◌++◌, ◌<◌, ◌^◌, slice_get, length, IfOk};
-ghost use Rattle.wz_valid_code.specs.Context.{spread};
-ghost use Rattle.wz_valid_code.specs.Runs.{ends_of, run_at, Rise};
+ghost use Rattle.wz_valid_code.specs.Context.{locals_of_runs};
+ghost use Rattle.wz_valid_code.specs.Runs.{ends_of, run_of_place, Rise};
 
 use std::alloc::{AllocError, Global};
 use std::marker::Model;
@@ -20,12 +20,12 @@ pub struct Locals<'c> {
 impl<'c> Model for Locals<'c> {
     ghost use Rattle.std.specs.Prelude.{◌≡◌, ◌++◌, List};
     ghost use Rattle.wz_types.specs.declared.types.ValType.{ValType};
-    ghost use Rattle.wz_valid_code.specs.Context.{spread};
+    ghost use Rattle.wz_valid_code.specs.Context.{locals_of_runs};
     ghost use Rattle.wz_valid_code.specs.Runs.{ends_of};
 
     ghost Value = { List ValType };
 
-    ghost view = { λ l. l.params.now ++ spread l.runs.now };
+    ghost view = { λ l. l.params.now ++ locals_of_runs l.runs.now };
 
     ghost invariant = { λ l. l.ends.items ≡ ends_of 0 l.runs.now };
 }
@@ -33,7 +33,7 @@ impl<'c> Model for Locals<'c> {
 /// The first run that ends behind this place.
 fn find_run(ends: &[u64], place: u64) -> usize
     requires { Rise ends.now }
-    ensures { result ≡ run_at place ends.now }
+    ensures { result ≡ run_of_place place ends.now }
 {
     let mut low = 0;
     let mut high = ends.len();
@@ -63,9 +63,9 @@ fn ends_of(alloc: Global, runs: &[(u32, ValType)]) -> Result<Vec<u64>, AllocErro
 }
 
 /// The type of the local at a place behind the parameters.
-fn type_at(ends: &[u64], runs: &[(u32, ValType)], place: u64) -> Option<ValType>
+fn type_of_place(ends: &[u64], runs: &[(u32, ValType)], place: u64) -> Option<ValType>
     requires { ends.now ≡ ends_of 0 runs.now }
-    ensures { result ≡ slice_get (spread runs.now) place }
+    ensures { result ≡ slice_get (locals_of_runs runs.now) place }
 {
     let at = find_run(ends, place);
     if at < runs.len() {
@@ -82,7 +82,7 @@ impl<'c> Locals<'c> {
         runs: &'c [(u32, ValType)],
     ) -> Result<Locals<'c>, AllocError>
         requires { length runs.now < 2 ^ 32 }
-        ensures { IfOk result (λ locals. locals ≡ params.now ++ spread runs.now) }
+        ensures { IfOk result (λ locals. locals ≡ params.now ++ locals_of_runs runs.now) }
     {
         let ends = ends_of(alloc, runs)?;
         Ok(Locals { params, runs, ends })
@@ -96,6 +96,6 @@ impl<'c> Locals<'c> {
             return Some(self.params[index]);
         }
         let place = (index - self.params.len()) as u64;
-        type_at(self.ends.as_slice(), self.runs, place)
+        type_of_place(self.ends.as_slice(), self.runs, place)
     }
 }

@@ -18,5 +18,9 @@ impl<'c> Model for Scope<'c> {
 
     ghost Value = { TheScope };
 
-    ghost view = { λ s. record { context = s.context.now; locals = s.locals; results = s.results.now } };
+    ghost view = { λ s. record {
+      context = s.context.now;
+      locals = s.locals;
+      results = s.results.now;
+    } };
 }

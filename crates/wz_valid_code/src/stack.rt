@@ -1,20 +1,20 @@
 //! The stack of operand types, with a type that fits any (Core Specification 2.0, section 7.3).
 
-ghost use Rattle.std.specs.Prelude.{◌≡◌, [], ◌∷◌, ◌++◌, reverse, MatchOption, OnOk, IfOk, if◌then◌else◌, Option, Some, None, true, false, IsTrue, ◌↔◌};
+ghost use Rattle.std.specs.Prelude.{◌≡◌, [], ◌∷◌, ◌++◌, reverse, is_some, OnOk, IfOk, false, true, IsTrue, ◌↔◌};
 ghost use Rattle.std.specs.Option.{option_to_list};
-ghost use Rattle.wz_valid_code.specs.Operands.{same, fits, is_number, is_reference, pushed};
+ghost use Rattle.wz_types.specs.SameType.{same_type};
+ghost use Rattle.wz_valid_code.specs.Operands.{fits, is_numeric, is_reference, pushed};
 ghost use Rattle.wz_valid_code.specs.Rules.{Exchange, Stop, DropOne, SelectOne, TestReference};
-ghost use Rattle.wz_valid_code.specs.Instructions.{operation_rule};
-ghost use Rattle.wz_valid_code.specs.Checking.{Known, join, taken, is_taken, popped, Got, Gone, after};
+ghost use Rattle.wz_valid_code.specs.Instructions.{operation_rule, bulk_rule};
+ghost use Rattle.wz_valid_code.specs.Checking.{common_type, after_taking, AfterTaking, AfterPopping, Followed};
 
-use crate::effect::{Effect, Form};
 use std::alloc::{AllocError, Global};
 use std::marker::Model;
 use wz_code::OpTypes;
 use wz_types::ValType;
 
 fn is_same(a: ValType, b: ValType) -> bool
-    ensures { result ≡ same a b }
+    ensures { result ≡ same_type a b }
 {
     match (a, b) {
         (ValType::I32, ValType::I32) => true,
@@ -36,8 +36,8 @@ fn does_fit(found: Option<ValType>, asked: ValType) -> bool
     }
 }
 
-fn is_number(kind: Option<ValType>) -> bool
-    ensures { result ≡ is_number kind }
+fn is_numeric(kind: Option<ValType>) -> bool
+    ensures { result ≡ is_numeric kind }
 {
     match kind {
         Some(ValType::FuncRef) | Some(ValType::ExternRef) => false,
@@ -55,8 +55,8 @@ fn is_reference(kind: Option<ValType>) -> bool
 }
 
 /// The type that both operands of a select have.
-fn joined(a: Option<ValType>, b: Option<ValType>) -> Option<Option<ValType>>
-    ensures { result ≡ join a b }
+fn common_type(a: Option<ValType>, b: Option<ValType>) -> Option<Option<ValType>>
+    ensures { result ≡ common_type a b }
 {
     match (a, b) {
         (None, b) => Some(b),
@@ -65,8 +65,8 @@ fn joined(a: Option<ValType>, b: Option<ValType>) -> Option<Option<ValType>>
     }
 }
 
-/// The known operands of the block that is checked; None is one that may be of any type. A `dead` stack
-/// goes on below them with as many more of any type as are asked for.
+/// The known operands of the block that is checked; None is one that may be of any type. A `dead`
+/// stack goes on below them with as many more of any type as are asked for.
 #[derive(Drop)]
 pub struct Stack {
     items: Vec<Option<ValType>>,
@@ -105,15 +105,17 @@ impl Stack {
         self.items.is_empty()
     }
 
+    #[inline]
     fn push(&mut self, kind: Option<ValType>) -> Result<(), AllocError>
-        ensures { OnOk result (self.new ≡ record { items = kind ∷ self.old.items; dead = self.old.dead }) }
+        ensures { OnOk result (self.new ≡ record self.old { items = kind ∷ self.old.items }) }
     {
         self.items.push(kind)?;
         Ok(())
     }
 
+    #[inline]
     fn pop(&mut self) -> Option<Option<ValType>>
-        ensures found { MatchOption result (popped self.old.items self.old.dead ≡ Gone) (λ q. popped self.old.items self.old.dead ≡ Got q self.new.items) }
+        ensures found { AfterPopping self.old self.new result }
         ensures same { self.new.dead ≡ self.old.dead }
     {
         match self.items.pop() {
@@ -122,8 +124,10 @@ impl Stack {
         }
     }
 
+    /// Takes one operand, and leaves the stack in part where it isn't there.
+    #[inline]
     pub fn take_one(&mut self, asked: ValType) -> bool
-        ensures taken { taken (asked ∷ []) self.old.items self.old.dead ≡ (if result then Some self.new.items else None) }
+        ensures taken { AfterTaking (asked ∷ []) self.old self.new result }
         ensures same { self.new.dead ≡ self.old.dead }
     {
         match self.pop() {
@@ -133,7 +137,7 @@ impl Stack {
     }
 
     pub fn take(&mut self, types: &[ValType]) -> bool
-        ensures taken { taken (reverse types.now) self.old.items self.old.dead ≡ (if result then Some self.new.items else None) }
+        ensures taken { AfterTaking (reverse types.now) self.old self.new result }
         ensures same { self.new.dead ≡ self.old.dead }
     {
         let mut left = types.len();
@@ -147,7 +151,8 @@ impl Stack {
     }
 
     pub fn give(&mut self, types: &[ValType]) -> Result<(), AllocError>
-        ensures { OnOk result (self.new ≡ record { items = pushed types.now self.old.items; dead = self.old.dead }) }
+        ensures { let items = pushed types.now self.old.items in
+            OnOk result (self.new ≡ record self.old { items = items }) }
     {
         for kind in types {
             self.push(Some(*kind))?;
@@ -155,8 +160,55 @@ impl Stack {
         Ok(())
     }
 
-    fn exchange(&mut self, takes: &[ValType], gives: &[ValType]) -> Result<bool, AllocError>
-        ensures { IfOk result (λ ok. after (Exchange takes.now gives.now) self.old.items self.old.dead ≡ (if ok then Some self.new else None)) }
+    /// Gives one operand.
+    #[inline]
+    pub fn give_one(&mut self, kind: ValType) -> Result<bool, AllocError>
+        ensures { IfOk result (λ ok. Followed (Exchange [] (kind ∷ [])) self.old self.new ok) }
+    {
+        self.push(Some(kind))?;
+        Ok(true)
+    }
+
+    /// Takes one operand.
+    #[inline]
+    pub fn take_only(&mut self, kind: ValType) -> bool
+        ensures { Followed (Exchange (kind ∷ []) []) self.old self.new result }
+    {
+        self.take_one(kind)
+    }
+
+    /// Takes one operand, and gives one.
+    #[inline]
+    pub fn change_one(&mut self, takes: ValType, gives: ValType) -> Result<bool, AllocError>
+        ensures { let rule = Exchange (takes ∷ []) (gives ∷ []) in
+            IfOk result (λ ok. Followed rule self.old self.new ok) }
+    {
+        if !self.take_one(takes) {
+            return Ok(false);
+        }
+        self.push(Some(gives))?;
+        Ok(true)
+    }
+
+    /// Takes two operands, the second of which was pushed last.
+    #[inline]
+    pub fn take_two(&mut self, first: ValType, second: ValType) -> bool
+        ensures { Followed (Exchange (first ∷ second ∷ []) []) self.old self.new result }
+    {
+        self.take_one(second) && self.take_one(first)
+    }
+
+    /// Takes a place, another number and a length.
+    pub fn take_three_i32(&mut self) -> Result<bool, AllocError>
+        ensures { IfOk result (λ ok. Followed bulk_rule self.old self.new ok) }
+    {
+        self.exchange(&[ValType::I32, ValType::I32, ValType::I32], &[])
+    }
+
+    /// Takes operands of these types, and gives those.
+    pub fn exchange(&mut self, takes: &[ValType], gives: &[ValType]) -> Result<bool, AllocError>
+        ensures { let rule = Exchange takes.now gives.now in
+            IfOk result (λ ok. Followed rule self.old self.new ok) }
     {
         if !self.take(takes) {
             return Ok(false);
@@ -166,8 +218,9 @@ impl Stack {
     }
 
     /// The same with an i32 on top of what is taken.
-    fn exchange_on(&mut self, takes: &[ValType], gives: &[ValType]) -> Result<bool, AllocError>
-        ensures { IfOk result (λ ok. after (Exchange (takes.now ++ ValType.I32 ∷ []) gives.now) self.old.items self.old.dead ≡ (if ok then Some self.new else None)) }
+    pub fn exchange_on(&mut self, takes: &[ValType], gives: &[ValType]) -> Result<bool, AllocError>
+        ensures { let rule = Exchange (takes.now ++ ValType.I32 ∷ []) gives.now in
+            IfOk result (λ ok. Followed rule self.old self.new ok) }
     {
         if !self.take_one(ValType::I32) {
             return Ok(false);
@@ -175,25 +228,28 @@ impl Stack {
         self.exchange(takes, gives)
     }
 
-    pub fn stopped(&mut self)
+    /// What follows is never reached.
+    pub fn set_dead(&mut self)
         ensures { self.new ≡ record { items = []; dead = true } }
     {
         self.clear();
         self.dead = true;
     }
 
-    fn stop(&mut self, takes: &[ValType]) -> bool
-        ensures { after (Stop takes.now) self.old.items self.old.dead ≡ (if result then Some self.new else None) }
+    /// Takes operands of these types; what follows is never reached.
+    pub fn stop(&mut self, takes: &[ValType]) -> bool
+        ensures { Followed (Stop takes.now) self.old self.new result }
     {
         if !self.take(takes) {
             return false;
         }
-        self.stopped();
+        self.set_dead();
         true
     }
 
-    fn drop_one(&mut self) -> bool
-        ensures { after DropOne self.old.items self.old.dead ≡ (if result then Some self.new else None) }
+    #[inline]
+    pub fn drop_one(&mut self) -> bool
+        ensures { Followed DropOne self.old self.new result }
     {
         match self.pop() {
             None => false,
@@ -201,8 +257,8 @@ impl Stack {
         }
     }
 
-    fn select_one(&mut self) -> Result<bool, AllocError>
-        ensures { IfOk result (λ ok. after SelectOne self.old.items self.old.dead ≡ (if ok then Some self.new else None)) }
+    pub fn select_one(&mut self) -> Result<bool, AllocError>
+        ensures { IfOk result (λ ok. Followed SelectOne self.old self.new ok) }
     {
         if !self.take_one(ValType::I32) {
             return Ok(false);
@@ -213,18 +269,18 @@ impl Stack {
         let Some(first) = self.pop() else {
             return Ok(false);
         };
-        let Some(kind) = joined(second, first) else {
+        let Some(kind) = common_type(second, first) else {
             return Ok(false);
         };
-        if !is_number(kind) {
+        if !is_numeric(kind) {
             return Ok(false);
         }
         self.push(kind)?;
         Ok(true)
     }
 
-    fn test_reference(&mut self) -> Result<bool, AllocError>
-        ensures { IfOk result (λ ok. after TestReference self.old.items self.old.dead ≡ (if ok then Some self.new else None)) }
+    pub fn test_reference(&mut self) -> Result<bool, AllocError>
+        ensures { IfOk result (λ ok. Followed TestReference self.old self.new ok) }
     {
         let Some(found) = self.pop() else {
             return Ok(false);
@@ -236,8 +292,9 @@ impl Stack {
         Ok(true)
     }
 
+    #[inline]
     fn take_second(&mut self, second: Option<ValType>) -> bool
-        ensures taken { taken (option_to_list second) self.old.items self.old.dead ≡ (if result then Some self.new.items else None) }
+        ensures taken { AfterTaking (option_to_list second) self.old self.new result }
         ensures same { self.new.dead ≡ self.old.dead }
     {
         match second {
@@ -246,8 +303,9 @@ impl Stack {
         }
     }
 
-    fn operation(&mut self, types: OpTypes) -> Result<bool, AllocError>
-        ensures { IfOk result (λ ok. after (operation_rule types) self.old.items self.old.dead ≡ (if ok then Some self.new else None)) }
+    #[inline]
+    pub fn operation(&mut self, types: OpTypes) -> Result<bool, AllocError>
+        ensures { IfOk result (λ ok. Followed (operation_rule types) self.old self.new ok) }
     {
         if !self.take_second(types.second) {
             return Ok(false);
@@ -259,25 +317,9 @@ impl Stack {
         Ok(true)
     }
 
-    /// What the rule makes of the stack, or false where it doesn't fit.
-    pub fn follow(&mut self, effect: &Effect<'_>) -> Result<bool, AllocError>
-        ensures { IfOk result (λ ok. after effect.now self.old.items self.old.dead ≡ (if ok then Some self.new else None)) }
-    {
-        match effect.form {
-            Form::Exchange => self.exchange(effect.takes, effect.gives),
-            Form::ExchangeOn => self.exchange_on(effect.takes, effect.gives),
-            Form::Operation(types) => self.operation(types),
-            Form::Stop => Ok(self.stop(effect.takes)),
-            Form::DropOne => Ok(self.drop_one()),
-            Form::SelectOne => self.select_one(),
-            Form::TestReference => self.test_reference(),
-            Form::NoRule => Ok(false),
-        }
-    }
-
     /// Whether these types could be taken.
     pub fn offers(&self, types: &[ValType]) -> bool
-        ensures { result ≡ is_taken (taken (reverse types.now) self.now.items self.now.dead) }
+        ensures { result ≡ is_some (after_taking (reverse types.now) self.now.items self.now.dead) }
     {
         let mut left = types.len();
         let mut below = self.items.len();

@@ -1,3 +1,5 @@
+//! Bodies and expressions, typed and untyped, each put together from a list of items.
+
 ghost use Rattle.std.specs.Prelude.{◌≡◌, ◌≤◌, ◌<◌, ◌+◌, ◌++◌, ◌∷◌, [], length, IsTrue, IfOk, IfSome, OnOk, ℕ, List};
 ghost use Rattle.wz_types.specs.declared.types.ValType.{ValType};
 ghost use Rattle.wz_code.specs.BodyParts.{item_count};
@@ -50,7 +52,8 @@ fn names_later(top: u32, instr: Instr) -> bool
 
 /// Whether it names at most the two labels and the two types that each body here has.
 fn is_in_pools(instr: Instr) -> bool
-    ensures { IsTrue result → (labels : List ℕ) (types : List ValType) → length labels ≡ 2 → length types ≡ 2 → InPools labels types instr }
+    ensures { IsTrue result → (labels : List ℕ) (types : List ValType)
+        → length labels ≡ 2 → length types ≡ 2 → InPools labels types instr }
 {
     match instr {
         Instr::BrTable { first, count, .. } => first < 3 && count < 3 && first + count < 3,
@@ -101,8 +104,10 @@ fn place(builder: &mut BodyBuilder, held: &[u32], instr: Instr) -> Result<bool, 
     requires types { length builder.old.types ≡ 2 }
     requires small { item_count builder.old < 4000000000 }
     ensures building { IfOk result (λ ok. IsTrue ok → IsBuilding builder.new held.now) }
-    ensures pools { IfOk result (λ ok. IsTrue ok → (length builder.new.labels ≡ 2) × (length builder.new.types ≡ 2)) }
-    ensures counted { IfOk result (λ ok. IsTrue ok → item_count builder.new ≡ item_count builder.old + 1) }
+    ensures pools { let sizes = (length builder.new.labels ≡ 2) × (length builder.new.types ≡ 2) in
+        IfOk result (λ ok. IsTrue ok → sizes) }
+    ensures counted { let one_more = item_count builder.new ≡ item_count builder.old + 1 in
+        IfOk result (λ ok. IsTrue ok → one_more) }
 {
     laws::building();
     laws::building_takes();
@@ -123,7 +128,8 @@ fn begin(builder: &mut BodyBuilder, held: &mut Vec<u32>) -> Result<(), AllocErro
     requires building { IsBuilding builder.old held.old.items }
     requires small { item_count builder.old < 4000000000 }
     ensures building { OnOk result (IsBuilding builder.new held.new.items) }
-    ensures pools { OnOk result ((builder.new.labels ≡ builder.old.labels) × (builder.new.types ≡ builder.old.types)) }
+    ensures pools { let types_stay = builder.new.types ≡ builder.old.types in
+        OnOk result ((builder.new.labels ≡ builder.old.labels) × types_stay) }
     ensures counted { OnOk result (item_count builder.new ≡ item_count builder.old + 1) }
 {
     laws::building_takes();
@@ -139,8 +145,10 @@ fn add(builder: &mut BodyBuilder, held: &mut Vec<u32>, item: Item) -> Result<boo
     requires types { length builder.old.types ≡ 2 }
     requires small { item_count builder.old < 4000000000 }
     ensures building { IfOk result (λ ok. IsTrue ok → IsBuilding builder.new held.new.items) }
-    ensures pools { IfOk result (λ ok. IsTrue ok → (length builder.new.labels ≡ 2) × (length builder.new.types ≡ 2)) }
-    ensures counted { IfOk result (λ ok. IsTrue ok → item_count builder.new ≡ item_count builder.old + 1) }
+    ensures pools { let sizes = (length builder.new.labels ≡ 2) × (length builder.new.types ≡ 2) in
+        IfOk result (λ ok. IsTrue ok → sizes) }
+    ensures counted { let one_more = item_count builder.new ≡ item_count builder.old + 1 in
+        IfOk result (λ ok. IsTrue ok → one_more) }
 {
     if let Item::Open = item {
         begin(builder, held)?;
@@ -153,8 +161,8 @@ fn add(builder: &mut BodyBuilder, held: &mut Vec<u32>, item: Item) -> Result<boo
     Ok(placed)
 }
 
-/// A builder with the labels 0 and 1 and the types i32 and funcref in its pools, and so many locals of
-/// type i64.
+/// A builder with the labels 0 and 1 and the types i32 and funcref in its pools, and so many locals
+/// of type i64.
 fn start(alloc: Global, locals: u32) -> Result<BodyBuilder, AllocError>
     ensures building { IfOk result (λ builder. IsBuilding builder (0 ∷ [])) }
     ensures labels { IfOk result (λ builder. length builder.labels ≡ 2) }
@@ -241,8 +249,8 @@ macro_rules! load {
     };
 }
 
-/// Bodies of a function with no parameters and no results, 50,000 locals of type i64, and whether they
-/// are typed. Type 1 is [i32] to [i64].
+/// Bodies of a function with no parameters and no results, 50,000 locals of type i64, and whether
+/// they are typed. Type 1 is [i32] to [i64]. Rows are counted from 0 where one fails.
 const BODIES: &[(bool, &[Item])] = &[
     (true, &[]),
     // behind an unconditional branch
@@ -567,27 +575,31 @@ fn bodies_and_expressions(rt: HostRuntime) -> Result<(), Fail> {
         datas: 1,
         declared: &declared,
     };
-    for (typed, items) in BODIES {
+    for (row, (typed, items)) in BODIES.iter().enumerate() {
         let Some(body) = body_of(alloc, 50_000, items)? else {
-            return Err(Fail::from("a row is no body"));
+            assert!(rt; false, "row {row} of BODIES is no body");
+            continue;
         };
         let answer = if *typed {
             Ok(())
         } else {
             Err(BodyFault::Untyped)
         };
-        assert!(rt; check_body(alloc, &context, &types[0], &body) == answer);
+        let found = check_body(alloc, &context, &types[0], &body);
+        assert!(rt; found == answer, "row {row} of BODIES");
     }
-    for (constant, items) in EXPRESSIONS {
+    for (row, (constant, items)) in EXPRESSIONS.iter().enumerate() {
         let Some(body) = body_of(alloc, 0, items)? else {
-            return Err(Fail::from("a row is no expression"));
+            assert!(rt; false, "row {row} of EXPRESSIONS is no expression");
+            continue;
         };
         let answer = if *constant {
             Ok(())
         } else {
             Err(BodyFault::Untyped)
         };
-        assert!(rt; check_constant(alloc, &context, ValType::I32, &body) == answer);
+        let found = check_constant(alloc, &context, ValType::I32, &body);
+        assert!(rt; found == answer, "row {row} of EXPRESSIONS");
     }
     Ok(())
 }

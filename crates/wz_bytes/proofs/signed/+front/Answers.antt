@@ -2,7 +2,7 @@ use Rattle.std.proofs.Common.{◌<◌, ◌-◌, arith, get_or, ap, ◌∙◌, Li
 use Rattle.std.proofs.lemmas.Int.{ints}
 use Rattle.std.proofs.lemmas.List.{take_rest}
 use Rattle.wz_bytes.specs.Signed.{signed_at}
-use Rattle.wz_bytes.proofs.SignedLemmas.{half_scaled, half_at_most, within_more, joined, signed_at-more}
+use Rattle.wz_bytes.proofs.SignedLemmas.{half_scaled, half_at_most, within_more, joined, signed_at_more}
 use Rattle.wz_bytes.proofs.signed.+front.Goals as goal
 
 pub overflow_mul-result : goal.overflow_mul-result
@@ -26,5 +26,5 @@ returns-clause-exact t c =
     let byte : get_or c.args.bytes.now 0 0 < 256 = (c.type_inv.bytes 0).fits in
     let low : get_or c.args.bytes.now 0 0 - 128 < 128 = omega arith in
     rw (joined c.args.bits c.in_ok-high.high c.from.result _ many c.requires.most c.in_ok-high.ensures.below c.from.ensures low)
-    (signed_at-more c.args.bits c.args.bytes.now c.in_ok-high.high c.in_ok-high.rest.now c.in-len1-up.len_at_least many c.if-byte-lt128.false byte
+    (signed_at_more c.args.bits c.args.bytes.now c.in_ok-high.high c.in_ok-high.rest.now c.in-len1-up.len_at_least many c.if-byte-lt128.false byte
     (c.in_ok-high.ensures.exact ∙ ap (λ (t : List ℕ). signed_at (c.args.bits - 7) t) (take_rest c.args.bytes.now 1)))

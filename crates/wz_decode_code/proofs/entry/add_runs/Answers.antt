@@ -8,7 +8,7 @@ returns-in_default-clause-bad c = λ bad. adds_none _ _ _ _ _ _ _ _ c.loop.invar
 
 pub add_locals-requires : goal.add_locals-requires
 add_locals-requires c =
-    some_room _ _ _ _ _ _ _ _ c.args.builder.now.locals c.loop.builder.locals (length c.in-Some.after.now) c.loop.invariant.adding (λ xs e. ap (λ b. b.locals) e) c.requires (run_shorter _ _ _ (sym c.in-Some.ensures))
+    some_room _ _ _ _ _ _ _ _ c.args.builder.now.locals c.loop.builder.locals (length c.take_run.new.cursor.left) c.loop.invariant.adding (λ xs e. ap (λ b. b.locals) e) c.requires (run_shorter _ _ _ (sym c.in-Some.ensures))
 
 pub loop-preserved : goal.loop-preserved
 loop-preserved c =

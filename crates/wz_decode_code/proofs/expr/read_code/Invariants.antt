@@ -8,10 +8,10 @@ use Rattle.wz_decode_code.proofs.expr.read_code.Given as goal
 abbrev pub invariant-symbols : goal.invariant-symbols
 invariant-symbols l = record {
   reading : IsReading l.builder l.here (reverse l.opens.items);
-  room : item_count l.builder + length l.rest ≤ item_count l.initial.builder + length l.bytes;
-  so_far : reads l.rest (tree_of l.builder l.here) (arounds l.builder (reverse l.opens.items)) ≡ expression_at l.bytes;
+  room : item_count l.builder + length l.cursor.left ≤ item_count l.initial.builder + length l.initial.cursor.left;
+  so_far : reads l.cursor.left (tree_of l.builder l.here) (arounds l.builder (reverse l.opens.items)) ≡ expression_at l.initial.cursor.left;
   locals : l.builder.locals ≡ l.initial.builder.locals;
 }
 
 abbrev pub decreases-symbols : goal.decreases-symbols
-decreases-symbols l = length l.rest
+decreases-symbols l = length l.cursor.left

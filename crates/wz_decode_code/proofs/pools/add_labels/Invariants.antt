@@ -5,6 +5,6 @@ use Rattle.wz_decode_code.proofs.pools.add_labels.Given as goal
 
 abbrev pub invariant-loop : goal.invariant-loop
 invariant-loop l = record {
-  adding : Adding (λ b. u32_at b) (λ body labels. with_labels body labels) l.count l.counter l.bytes l.initial.builder l.builder l.rest;
+  adding : Adding (λ b. u32_at b) (λ body labels. with_labels body labels) l.count l.counter l.initial.cursor.left l.initial.builder l.builder l.cursor.left;
   end : EndsBehind l.counter l.end (length l.builder.labels);
 }

@@ -5,6 +5,6 @@ use Rattle.wz_decode_code.proofs.pools.add_types.Given as goal
 
 abbrev pub invariant-loop : goal.invariant-loop
 invariant-loop l = record {
-  adding : Adding (λ b. type_at b) (λ body types. with_types body types) l.count l.counter l.bytes l.initial.builder l.builder l.rest;
+  adding : Adding (λ b. type_at b) (λ body types. with_types body types) l.count l.counter l.initial.cursor.left l.initial.builder l.builder l.cursor.left;
   end : EndsBehind l.counter l.end (length l.builder.types);
 }

@@ -1,5 +1,5 @@
-use Rattle.wz_io.proofs.ToldLemmas.{appended-written}
+use Rattle.wz_io.proofs.ToldLemmas.{with_more_output-with_output}
 use Rattle.wz_io.proofs.laws.appended_is_written.Goals as goal
 
 pub returns : goal.returns
-returns c = appended-written
+returns c = with_more_output-with_output

@@ -20,4 +20,7 @@ returns-then-eq c =
     ∙ ap (λ (xs : List _). Some xs) (sym c.as_slice-then-eq.ensures.value))
 
 pub returns : goal.returns
-returns c = sym (c.loop-entry.invariant ∙ ap (λ (es : List _). get (contents es) c.args.path.now) (no_entries _ c.in-None.ensures.steps.0) ∙ get-empty (slice_cmp nat_cmp) c.args.path.now)
+returns c =
+    sym (c.loop-entry.invariant
+    ∙ ap (λ (es : List _). get (contents es) c.args.path.now) (no_entries _ c.in-None.ensures.steps.0)
+    ∙ get-empty (slice_cmp nat_cmp) c.args.path.now)

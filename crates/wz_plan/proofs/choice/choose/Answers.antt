@@ -1,7 +1,7 @@
 use Rattle.std.proofs.Common.{length, ◌+◌, ◌++◌, [], ◌∷◌, take, get_or, arith, ap, subst, sym, ◌∙◌}
 use Rattle.std.proofs.lemmas.List.{take_more, take_all}
 use Rattle.wz_plan.specs.declared.runs.Run.{Run}
-use Rattle.wz_plan.specs.Ranges.{RisesFrom, EndsBy, joined}
+use Rattle.wz_plan.specs.Ranges.{RisesFrom, EndsBy, with_gaps_merged}
 use Rattle.wz_plan.specs.Plan.{chosen}
 use Rattle.wz_plan.specs.Collected.{cuts_gap, added}
 use Rattle.wz_plan.proofs.JoinLemmas.{joined-push}
@@ -37,18 +37,18 @@ loop-run-preserved c =
     ∙ added-if_read (cuts_gap c.in_ok-cuts.cuts) c.is_cut_before-cut.result c.loop-run.ranges.items c.deref.result.now run c.deref.ensures.value c.is_cut_before-cut.ensures
     ∙ ap (λ l. added (cuts_gap c.in_ok-cuts.cuts) l run) c.loop-run.invariant
     ∙ sym (joined-push (cuts_gap c.in_ok-cuts.cuts) 0 (take c.loop-run.run-index c.args.runs.now) run rises)
-    ∙ ap (joined (cuts_gap c.in_ok-cuts.cuts)) (sym more)
+    ∙ ap (with_gaps_merged (cuts_gap c.in_ok-cuts.cuts)) (sym more)
 
 pub returns-clause-chosen : goal.returns-clause-chosen
 returns-clause-chosen c =
     c.loop-run.invariant
-    ∙ ap (joined (cuts_gap c.in_ok-cuts.cuts)) (take_all c.loop-run.run-index c.args.runs.now (omega arith))
+    ∙ ap (with_gaps_merged (cuts_gap c.in_ok-cuts.cuts)) (take_all c.loop-run.run-index c.args.runs.now (omega arith))
     ∙ chosen_is (cuts_gap c.in_ok-cuts.cuts) c.args.runs.now c.args.limit c.requires.apart c.in_ok-cuts.ensures
 
 pub returns-clause-few : goal.returns-clause-few
 returns-clause-few c =
     let is = c.loop-run.invariant
-    ∙ ap (joined (cuts_gap c.in_ok-cuts.cuts)) (take_all c.loop-run.run-index c.args.runs.now (omega arith))
+    ∙ ap (with_gaps_merged (cuts_gap c.in_ok-cuts.cuts)) (take_all c.loop-run.run-index c.args.runs.now (omega arith))
     ∙ chosen_is (cuts_gap c.in_ok-cuts.cuts) c.args.runs.now c.args.limit c.requires.apart c.in_ok-cuts.ensures in
     omega (
       arith,
@@ -59,7 +59,7 @@ returns-clause-few c =
 pub returns-clause-plan : goal.returns-clause-plan
 returns-clause-plan c = λ bytes is.
     c.loop-run.invariant
-    ∙ ap (joined (cuts_gap c.in_ok-cuts.cuts)) (take_all c.loop-run.run-index c.args.runs.now (omega arith))
+    ∙ ap (with_gaps_merged (cuts_gap c.in_ok-cuts.cuts)) (take_all c.loop-run.run-index c.args.runs.now (omega arith))
     ∙ chosen_is (cuts_gap c.in_ok-cuts.cuts) c.args.runs.now c.args.limit c.requires.apart c.in_ok-cuts.ensures
     ∙ ap (λ l. chosen l c.args.limit) is
     ∙ choice_is_plan bytes c.args.limit

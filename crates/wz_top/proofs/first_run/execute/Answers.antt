@@ -2,12 +2,12 @@ use Rattle.std.proofs.Common.{ℕ, List, get_or, ap, ◌∙◌}
 use Rattle.std.specs.Prelude.{Option, Some}
 use Rattle.wz_top.specs.declared.first_grammar.Global.{Global}
 use Rattle.wz_top.specs.declared.first_grammar.Instruction.TheVariants.{Const}
-use Rattle.wz_top.specs.FirstRun.{State}
+use Rattle.wz_top.specs.FirstRun.{FirstState}
 use Rattle.wz_top.specs.FirstRunViews.{state_view}
 use Rattle.wz_top.proofs.FirstRunLemmas.{went_on, stuck_at, went, stuck, ended, none_leaves, others_leave, no_operands, some_operands}
 use Rattle.wz_top.proofs.first_run.execute.Goals as goal
 
-abbrev finished : List Global → List ℕ → Option State
+abbrev finished : List Global → List ℕ → Option FirstState
 finished globals operands = Some (record { globals = globals; operands = operands })
 
 pub loop-instruction-preserved : goal.loop-instruction-preserved

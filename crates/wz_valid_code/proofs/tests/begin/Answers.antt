@@ -9,4 +9,5 @@ returns-clause-building c =
     let P : BodyParts → Type 0 = λ body. IsBuilding body c.push.new.self.items in
     subst P (sym c.in_ok-number.ensures.added)
     (c.building_takes.ensures.block c.args.builder.now c.args.held.now.items c.push.new.self.items c.requires.building
-    (λ k. ap (times k) c.in_ok-push.ensures.items ∙ times-pushed k c.args.held.now.items c.in_ok-number.number ∙ ap (λ (n : ℕ). times k (n ∷ c.args.held.now.items)) c.in_ok-number.ensures.number)).building
+    (λ k. ap (times k) c.in_ok-push.ensures.items ∙ times-pushed k c.args.held.now.items c.in_ok-number.number
+    ∙ ap (λ (n : ℕ). times k (n ∷ c.args.held.now.items)) c.in_ok-number.ensures.number)).building

@@ -1,0 +1,5 @@
+mod PatternLemmas
+mod StuckLemmas
+mod BoundLemmas
+mod ServeLemmas
+mod WordLemmas
