@@ -35,12 +35,12 @@ unfolding written
 get_or-written_inside memory at bytes place d h low high = search (rules, places)
 
 -- a place is below a range, in it or above it
-by_range : {P : Type 0} (place at size : ℕ) → (place < at → P) → (at ≤ place → place < at + size → P) → (at + size ≤ place → P) → P
+pub by_range : {P : Type 0} (place at size : ℕ) → (place < at → P) → (at ≤ place → place < at + size → P) → (at + size ≤ place → P) → P
 by_range place at size below inside above =
     ⊎_elim below (λ low. ⊎_elim (λ high. inside low high) above (cases_lt place (at + size))) (cases_lt place at)
 
 -- a list is what was written where it agrees with it on each of the three
-written_by_place : (memory : List ℕ) (at : ℕ) (bytes xs : List ℕ) → IsWithin memory at (length bytes) → length xs ≡ length memory
+pub written_by_place : (memory : List ℕ) (at : ℕ) (bytes xs : List ℕ) → IsWithin memory at (length bytes) → length xs ≡ length memory
     → ((k d : ℕ) → k < at → get_or xs k d ≡ get_or memory k d)
     → ((k d : ℕ) → at ≤ k → k < at + length bytes → get_or xs k d ≡ get_or bytes (k - at) d)
     → ((k d : ℕ) → at + length bytes ≤ k → get_or xs k d ≡ get_or memory k d)
@@ -61,7 +61,7 @@ written_alike memory other at bytes k d within too same = by_range k at (length 
     (λ high. get_or-written_above memory at bytes k d within high ∙ same ∙ sym (get_or-written_above other at bytes k d too high))
 
 -- apart from the range, a place holds what it held
-get_or-written_apart : (memory : List ℕ) (at : ℕ) (bytes : List ℕ) (k d : ℕ)
+pub get_or-written_apart : (memory : List ℕ) (at : ℕ) (bytes : List ℕ) (k d : ℕ)
     → IsWithin memory at (length bytes) → (k < at) ⊎ (at + length bytes ≤ k) → get_or (written memory at bytes) k d ≡ get_or memory k d
 get_or-written_apart memory at bytes k d within apart =
     ⊎_elim (λ low. get_or-written_below memory at bytes k d within low) (λ high. get_or-written_above memory at bytes k d within high) apart
@@ -79,7 +79,7 @@ reads_what_was_written memory at bytes skip count within inside =
     ∙ ap (λ n. get_or bytes n d) place
     ∙ sym (get_or-part bytes skip count k d small))
 
-part_all : (bytes : List ℕ) → part bytes 0 (length bytes) ≡ bytes
+pub part_all : (bytes : List ℕ) → part bytes 0 (length bytes) ≡ bytes
 unfolding part
 part_all bytes = take_all (length bytes) bytes (omega arith)
 

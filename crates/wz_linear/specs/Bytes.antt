@@ -26,5 +26,5 @@ unfoldable pub written : List ℕ → ℕ → List ℕ → List ℕ
 written memory at bytes = take at memory ++ bytes ++ drop (at + length bytes) memory
 
 -- how many bytes a load or a store of an integer takes
-abbrev pub IsWidth : ℕ → Type 0
-IsWidth width = (width ≡ 1) ⊎ ((width ≡ 2) ⊎ ((width ≡ 4) ⊎ (width ≡ 8)))
+abbrev pub IsAccessWidth : ℕ → Type 0
+IsAccessWidth width = (width ≡ 1) ⊎ ((width ≡ 2) ⊎ ((width ≡ 4) ⊎ (width ≡ 8)))

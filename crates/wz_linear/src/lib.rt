@@ -13,7 +13,7 @@ mod memory;
 mod plain;
 
 pub use memory::{Linear, MAX_PAGES, PAGE_SIZE};
-pub use plain::PlainMemory;
+pub use plain::{PlainMemory, fill_range, number_at, put_number, put_slice};
 
 #[cfg(test)]
 mod tests;

@@ -1,8 +1,8 @@
 //! A memory in one vector.
 
-ghost use Rattle.std.specs.Prelude.{◌≡◌, ◌+◌, ◌^◌, ◌<◌, ◌≤◌, ◌↔◌, length, replicate, IsTrue, IfOk, IsOk, OnErr, SomeIff};
+ghost use Rattle.std.specs.Prelude.{◌≡◌, ◌+◌, ◌^◌, ◌<◌, ◌≤◌, ◌↔◌, length, replicate, false, IsTrue, IfOk, IsOk, OnErr, SomeIff};
 ghost use Rattle.std.specs.Bool.{OnTrue, OnFalse};
-ghost use Rattle.wz_linear.specs.Bytes.{IsWidth, IsWithin, number_of, bytes_of, part, written};
+ghost use Rattle.wz_linear.specs.Bytes.{IsAccessWidth, IsWithin, number_of, bytes_of, part, written};
 
 use crate::memory::{Linear, PAGE_SIZE};
 use std::alloc::{AllocError, Global};
@@ -42,6 +42,8 @@ impl PlainMemory {
 impl Linear for PlainMemory {
     ghost contents = { λ memory. memory };
 
+    ghost may_refuse = { false };
+
     fn zeroed(alloc: Global, pages: u32) -> Result<Self, AllocError> {
         let mut bytes = Vec::new(alloc);
         bytes.resize(pages as usize * PAGE_SIZE as usize, 0)?;
@@ -67,7 +69,7 @@ impl Linear for PlainMemory {
 
     #[inline]
     fn store(&mut self, at: u64, value: u64, width: u32) -> Result<bool, AllocError>
-        requires { IsWidth width }
+        requires { IsAccessWidth width }
         ensures within { IfOk result (λ done. IsTrue done ↔ IsWithin self.old at width) }
         ensures stored { IfOk result (λ done. OnTrue done
             (self.new ≡ written self.old at (bytes_of width value))) }
@@ -146,12 +148,16 @@ impl Linear for PlainMemory {
             None => false,
         }
     }
+
+    fn untouched(&self, page: u32) -> bool {
+        false
+    }
 }
 
 /// The number whose bytes, the lowest first, stand at a place.
 #[inline]
-fn number_at(bytes: &[u8], at: usize, width: u32) -> u64
-    requires width { IsWidth width }
+pub fn number_at(bytes: &[u8], at: usize, width: u32) -> u64
+    requires width { IsAccessWidth width }
     requires within { at + width ≤ length bytes.now }
     ensures number { result ≡ number_of (part bytes.now at width) }
     ensures narrow { result < 256 ^ width }
@@ -180,8 +186,8 @@ fn number_at(bytes: &[u8], at: usize, width: u32) -> u64
 
 /// Writes the lowest bytes of a number, the lowest first, at a place.
 #[inline]
-fn put_number(bytes: &mut [u8], at: usize, value: u64, width: u32)
-    requires width { IsWidth width }
+pub fn put_number(bytes: &mut [u8], at: usize, value: u64, width: u32)
+    requires width { IsAccessWidth width }
     requires within { at + width ≤ length bytes.old }
     ensures { bytes.new ≡ written bytes.old at (bytes_of width value) }
 {
@@ -212,7 +218,7 @@ fn put_number(bytes: &mut [u8], at: usize, value: u64, width: u32)
 }
 
 /// Writes the byte to each place of a range.
-fn fill_range(bytes: &mut [u8], at: usize, len: usize, byte: u8)
+pub fn fill_range(bytes: &mut [u8], at: usize, len: usize, byte: u8)
     requires { at + len ≤ length bytes.old }
     ensures { bytes.new ≡ written bytes.old at (replicate len byte) }
 {
@@ -220,7 +226,7 @@ fn fill_range(bytes: &mut [u8], at: usize, len: usize, byte: u8)
 }
 
 /// Writes these bytes from a place on.
-fn put_slice(bytes: &mut [u8], at: usize, source: &[u8])
+pub fn put_slice(bytes: &mut [u8], at: usize, source: &[u8])
     requires { at + length source.now ≤ length bytes.old }
     ensures { bytes.new ≡ written bytes.old at source.now }
 {

@@ -52,5 +52,10 @@ fn plain_memory(rt: HostRuntime) -> Result<(), Fail> {
     stores_at_the_end(&rt, &mut memory)?;
     moves_bytes(&rt, &mut memory)?;
     assert!(rt; !memory.read_into(131_065, &mut [0; 8]));
+    assert_eq!(rt; memory.size_pages(), 2);
+    assert!(rt;
+        !memory.untouched(1),
+        "a memory in one vector knows of no page"
+    );
     Ok(())
 }

@@ -1,5 +1,6 @@
 -- What the structs of items are in the sense of section 2.5 of the Core Specification.
 use Rattle.std.specs.Prelude.{ℕ, List, map}
+use Rattle.wz_code.specs.BodyParts.{BodyParts}
 use Rattle.wz_code.specs.Trees.{Code, tree_of}
 use Rattle.wz_module.specs.Sections.{Section}
 use Rattle.wz_module.specs.Imports.{Import}
@@ -40,10 +41,14 @@ elem_mode_of mode.Passive = PassiveElem
 elem_mode_of (mode.Active table offset) = ActiveElem table (tree_of offset 0)
 elem_mode_of mode.Declarative = DeclarativeElem
 
+-- the trees of expressions
+abbrev pub trees_of : List BodyParts → List Code
+trees_of bodies = map (λ body. tree_of body 0) bodies
+
 -- the expressions of an element segment's references
 abbrev pub init_of : ElemItems → List Code
 init_of (Funcs indices) = map function_reference indices.items
-init_of (Exprs bodies) = map (λ body. tree_of body 0) bodies.items
+init_of (Exprs bodies) = trees_of bodies.items
 
 abbrev pub elem_of : elem.Elem → Elem
 elem_of e = record { mode = elem_mode_of e.mode; kind = e.kind; init = init_of e.items }

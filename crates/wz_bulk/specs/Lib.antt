@@ -1,0 +1,4 @@
+pub mod Effects
+pub mod MemoryEffects
+pub mod Sizes
+pub mod TableEffects
