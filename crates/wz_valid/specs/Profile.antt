@@ -4,6 +4,7 @@ use Rattle.std.specs.List.{All, sum_by}
 use Rattle.wz_types.specs.declared.types.TableType.{TableType}
 use Rattle.wz_types.specs.declared.types.ValType.{ValType}
 use Rattle.wz_types.specs.FunctionType.{FunctionType}
+use Rattle.wz_code.specs.BodyParts.{BodyParts}
 use Rattle.wz_module.specs.declared.items.ImportKind.{ImportKind}
 use Rattle.wz_module.specs.declared.items.ImportKind.TheVariants as kind
 use Rattle.wz_module.specs.Imports.{Import}
@@ -43,30 +44,52 @@ first_pages m = sum_by (λ memory. memory.limits.min) (all_memories m)
 abbrev pub first_entries : List TableType → ℕ
 first_entries tables = sum_by (λ table. table.limits.min) tables
 
+abbrev pub HasSmallTables : Module → Type 0
+HasSmallTables m = first_entries (all_tables m) ≤ entries_limit
+
 -- ---- the number of parameters and locals of each function, imports first
 
 abbrev pub params_of : Option FunctionType → ℕ
 params_of None = 0
 params_of (Some type) = length type.params
 
+-- an import that is no function has no parameters
+abbrev pub import_params : List FunctionType → ImportKind → ℕ
+import_params types (kind.Func number) = params_of (slice_get types number)
+import_params types (kind.Table type) = 0
+import_params types (kind.Memory type) = 0
+import_params types (kind.Global type) = 0
+
 abbrev pub runs_length : List (ℕ × ValType) → ℕ
 runs_length runs = sum_by (λ run. run.0) runs
+
+-- where there is no body, there are none
+abbrev pub locals_length : Option BodyParts → ℕ
+locals_length None = 0
+locals_length (Some body) = runs_length body.locals
 
 abbrev pub own_locals : List FunctionType → List ℕ → List BodyTree → List ℕ
 own_locals types [] bodies = []
 own_locals types (number ∷ numbers) [] = params_of (slice_get types number) ∷ own_locals types numbers []
 own_locals types (number ∷ numbers) (body ∷ bodies) = (params_of (slice_get types number) + runs_length body.0) ∷ own_locals types numbers bodies
 
+-- of the own functions
+abbrev pub own_counts : Module → List ℕ
+own_counts m = own_locals m.types m.functions m.bodies
+
 abbrev pub local_counts : Module → List ℕ
-local_counts m = map (λ number. params_of (slice_get m.types number)) (imported_functions m.imports) ++ own_locals m.types m.functions m.bodies
+local_counts m = map (λ number. params_of (slice_get m.types number)) (imported_functions m.imports) ++ own_counts m
+
+abbrev pub HasSmallFunctions : Module → Type 0
+HasSmallFunctions m = All (λ count. count ≤ locals_limit) (local_counts m)
 
 -- ---- the profile
 
 pub record IsInProfile (m : Module) : Type 0 where
   pub imports : All IsFunctionImport m.imports
   pub memories : first_pages m ≤ pages_limit
-  pub tables : first_entries (all_tables m) ≤ entries_limit
-  pub locals : All (λ count. count ≤ locals_limit) (local_counts m)
+  pub tables : HasSmallTables m
+  pub locals : HasSmallFunctions m
 
 -- ---- why a module is outside it, in the order in which it is looked at
 
@@ -90,7 +113,7 @@ pub record HasLargeTable (m : Module) (index entries : ℕ) : Type 0 where
 pub record HasManyLocals (m : Module) (function count : ℕ) : Type 0 where
   pub imports : All IsFunctionImport m.imports
   pub memories : first_pages m ≤ pages_limit
-  pub tables : first_entries (all_tables m) ≤ entries_limit
+  pub tables : HasSmallTables m
   pub size : slice_get (local_counts m) function ≡ Some count
   pub above : locals_limit < count
   pub before : All (λ other. other ≤ locals_limit) (take function (local_counts m))

@@ -6,5 +6,7 @@
 #![tactic(auto)]
 
 mod faults;
+mod profile_rules;
 
 pub use faults::{OutOfProfile, Part, ValidFault};
+pub use profile_rules::profile;
