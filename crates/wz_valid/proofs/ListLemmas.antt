@@ -1,10 +1,10 @@
 -- Lists, looked at from their beginning.
-use Rattle.std.proofs.Common.{◌≡◌, ℕ, zero, suc, ◌+◌, ◌-◌, ◌<◌, ◌≤◌, List, [], ◌∷◌, ◌++◌, Option, Some, None, IsSomeAnd, map, take, drop, get_or, length, refl, sym, ap, subst, ◌∙◌, slice_get, All, arith, append-nil}
+use Rattle.std.proofs.Common.{◌≡◌, ℕ, zero, suc, ◌+◌, ◌-◌, ◌<◌, ◌≤◌, List, [], ◌∷◌, ◌++◌, Some, map, take, get_or, length, refl, sym, ap, subst, ◌∙◌, slice_get, All, arith, append-nil}
 use Rattle.std.specs.List.{flat_map}
 use Rattle.std.proofs.lemmas.List.{take_more, take_all}
 use Rattle.std.proofs.lemmas.Option.{slice_get_within, get_or_from_slice_get}
 use Rattle.std.proofs.lemmas.List.Concat.{flat_map-append}
-use Rattle.std.proofs.lemmas.List.Elements.{All-nil, All-cons, All-head, All-tail, All-push}
+use Rattle.std.proofs.lemmas.List.Elements.{All-push}
 use Rattle.std.proofs.Math.ListN.{get_or-map, length-map}
 
 -- the items up to the next one, seen through a map
@@ -57,3 +57,7 @@ flat_next {Y = Y} {Z = Z} F f xs i d less =
     ap (λ (ys : List Y). flat_map F ys) (map_next f xs i d less)
     ∙ flat_map-append F (take i (map f xs)) (f (get_or xs i d) ∷ [])
     ∙ ap (λ (zs : List Z). flat_map F (take i (map f xs)) ++ zs) (append-nil (F (f (get_or xs i d))))
+
+pub map_twice : {X Y Z : Type 0} (g : Y → Z) (f : X → Y) (xs : List X) → map (λ x. g (f x)) xs ≡ map g (map f xs)
+map_twice g f [] = refl
+map_twice {Z = Z} g f (x ∷ xs) = ap (λ (zs : List Z). g (f x) ∷ zs) (map_twice g f xs)

@@ -1,5 +1,5 @@
 -- Section 3.4.10 of the Core Specification: the contexts under which the parts of a module are looked at.
-use Rattle.std.specs.Prelude.{ℕ, List, [], length, map}
+use Rattle.std.specs.Prelude.{[], length, map}
 use Rattle.wz_valid_code.specs.Context.{TypingContext}
 use Rattle.wz_module.specs.Module.{Module}
 use Rattle.wz_valid.specs.Indices.{imported_globals, all_functions, all_tables, all_memories, all_globals}

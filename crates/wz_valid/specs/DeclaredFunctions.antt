@@ -1,15 +1,14 @@
 -- Section 3.4.10 of the Core Specification: the functions of which a body may make references, which are those that occur in the
 -- module outside its functions and its start: in globals, element segments and exports. (The offset of a data segment is an i32, so
 -- none that names a function is valid.)
-use Rattle.std.specs.Prelude.{ℕ, List, [], ◌∷◌, ◌++◌}
+use Rattle.std.specs.Prelude.{◌≡◌, ℕ, List, [], ◌∷◌, ◌++◌, ◌||◌}
 use Rattle.std.specs.List.{flat_map}
 use Rattle.wz_code.specs.declared.instr.Instr.{Instr}
 use Rattle.wz_code.specs.declared.instr.Instr.TheVariants.{RefFunc}
 use Rattle.wz_code.specs.Trees.{Code, End, Then, InBlock, InLoop, InIf, Leaf, Plain, TableBranch, TypedSelect}
+use Rattle.wz_valid_code.specs.Context.{has_number}
 use Rattle.wz_module.specs.declared.items.ExportTarget.{ExportTarget}
 use Rattle.wz_module.specs.declared.items.ExportTarget.TheVariants as target
-use Rattle.wz_module.specs.Exports.{Export}
-use Rattle.wz_module.specs.Globals.{GlobalDef}
 use Rattle.wz_module.specs.Elements.{ElemMode, PassiveElem, ActiveElem, DeclarativeElem, Elem}
 use Rattle.wz_module.specs.Module.{Module}
 
@@ -50,3 +49,13 @@ abbrev pub declared_in : Module → List ℕ
 declared_in m =
     flat_map (λ g. referred_in g.init) m.globals
     ++ (flat_map referred_in_segment m.elements ++ flat_map (λ e. exported_function e.target) m.exports)
+
+-- ---- sets of functions
+
+-- the numbers of one list and those that others name are the numbers of the list now
+abbrev pub Adds : List ℕ → List ℕ → List ℕ → Type 0
+Adds before now more = (function : ℕ) → has_number function now ≡ (has_number function before || has_number function more)
+
+-- two lists have the same numbers
+abbrev pub HaveSameNumbers : List ℕ → List ℕ → Type 0
+HaveSameNumbers one other = (function : ℕ) → has_number function one ≡ has_number function other

@@ -1,11 +1,10 @@
 -- Sections 3.4.1 to 3.4.9 of the Core Specification: when a single item of a module is ok.
-use Rattle.std.specs.Prelude.{◌≡◌, ℕ, ◌+◌, ◌<◌, ◌≤◌, List, [], ◌∷◌, length, take, slice_get, IsSome, IsSomeAnd, Option, Some, None}
+use Rattle.std.specs.Prelude.{◌≡◌, ℕ, ◌+◌, ◌<◌, [], ◌∷◌, length, take, slice_get, IsSomeAnd, Some}
 use Rattle.std.specs.List.{All}
 use Rattle.wz_types.specs.declared.types.ValType.TheVariants.{I32}
 use Rattle.wz_types.specs.declared.types.TableType.{TableType}
 use Rattle.wz_types.specs.FunctionType.{FunctionType}
 use Rattle.wz_types.specs.Fits.{type_of_kind}
-use Rattle.wz_code.specs.Trees.{Code}
 use Rattle.wz_valid_code.specs.Context.{TypingContext, scope_of, function_type}
 use Rattle.wz_valid_code.specs.Typing.{IsTyped, IsConstant}
 use Rattle.wz_module.specs.declared.items.ImportKind.{ImportKind}
@@ -16,9 +15,9 @@ use Rattle.wz_module.specs.Functions.{BodyTree}
 use Rattle.wz_module.specs.Globals.{GlobalDef}
 use Rattle.wz_module.specs.Exports.{Export}
 use Rattle.wz_module.specs.Elements.{ElemMode, PassiveElem, ActiveElem, DeclarativeElem, Elem}
-use Rattle.wz_module.specs.Datas.{DataMode, PassiveData, ActiveData, DataSegment}
+use Rattle.wz_module.specs.Datas.{DataMode, PassiveData, ActiveData}
 use Rattle.wz_module.specs.Module.{Module}
-use Rattle.wz_valid.specs.Indices.{imported_memories, imported_functions, all_tables}
+use Rattle.wz_valid.specs.Indices.{imported_memories, all_tables}
 use Rattle.wz_valid.specs.Contexts.{context_of, globals_context_of}
 use Rattle.wz_valid.specs.Limits.{IsTableOk, IsMemoryOk}
 

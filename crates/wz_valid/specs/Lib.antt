@@ -5,3 +5,4 @@ pub mod Limits
 pub mod Items
 pub mod Validity
 pub mod Profile
+pub mod Laws

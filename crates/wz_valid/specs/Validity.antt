@@ -1,5 +1,5 @@
 -- Section 3.4.10 of the Core Specification: a module is valid where each of its items is ok. Types need nothing.
-use Rattle.std.specs.Prelude.{◌≡◌, ℕ, ◌<◌, ◌⊎◌, List, length, take, slice_get, IsSomeAnd, Option, option_to_list}
+use Rattle.std.specs.Prelude.{◌≡◌, ℕ, ◌<◌, ◌⊎◌, length, take, slice_get, IsSomeAnd, option_to_list}
 use Rattle.wz_module.specs.Module.{Module}
 use Rattle.wz_valid.specs.declared.faults.Part.{Part}
 use Rattle.wz_valid.specs.declared.faults.Part.TheVariants as part

@@ -1,4 +1,4 @@
-use Rattle.std.proofs.Common.{List, ap, subst, sym, ◌∙◌, ◌+◌, ◌<◌, ◌≤◌, ◌≡◌, take, length, arith, None}
+use Rattle.std.proofs.Common.{List, subst, ◌+◌, ◌<◌, ◌≤◌, ◌≡◌, take, length, arith, None}
 use Rattle.std.proofs.lemmas.List.Sums.{sum_by_more}
 use Rattle.wz_types.specs.declared.types.TableType.{TableType}
 use Rattle.wz_types.specs.declared.types.RefKind.TheVariants.{Func}

@@ -1,4 +1,4 @@
-use Rattle.std.proofs.Common.{◌≡◌, ℕ, ◌-◌, ◌≤◌, List, [], Some, slice_get, length, sym, ap, subst, ◌∙◌, get_or, arith}
+use Rattle.std.proofs.Common.{◌≡◌, ℕ, ◌-◌, List, [], Some, slice_get, length, sym, ap, subst, ◌∙◌, get_or, arith}
 use Rattle.std.proofs.Math.ListN.{length-map}
 use Rattle.wz_module.specs.declared.items.Import as import
 use Rattle.wz_module.specs.declared.items.ImportKind.TheVariants as kind
