@@ -21,7 +21,7 @@ use Rattle.wz_module.specs.Elements.{function_reference}
 use Rattle.wz_module.specs.Exports.{Export}
 use Rattle.wz_module.specs.Globals.{GlobalDef}
 use Rattle.wz_module.specs.Module.{Module}
-use Rattle.wz_valid.specs.DeclaredFunctions.{Adds, HaveSameNumbers, referred_by, referred_in, referred_in_segment, exported_function, declared_in}
+use Rattle.wz_valid.specs.DeclaredFunctions.{AddsFunctions, HaveSameNumbers, referred_by, referred_in, referred_in_segment, exported_function, declared_in}
 use Rattle.wz_valid.proofs.TreeLemmas.{has-append, tree-refers}
 
 or-none : (b : Bool) → b ≡ (b || false)
@@ -56,7 +56,7 @@ or-last false false = refl
 
 -- a set with a function more
 pub adds_one : (before now : BTreeSet ℕ) (key : ℕ) → ((q : ℕ) → contains nat_cmp now q ≡ cond (is_at (nat_cmp key) q) true (contains nat_cmp before q))
-    → Adds before.keys now.keys (key ∷ [])
+    → AddsFunctions before.keys now.keys (key ∷ [])
 adds_one before now key updates f =
     sym (contains-has f now.keys)
     ∙ updates f
@@ -66,10 +66,10 @@ adds_one before now key updates f =
 
 -- ---- one after the other
 
-pub adds_none : (before : List ℕ) → Adds before before []
+pub adds_none : (before : List ℕ) → AddsFunctions before before []
 adds_none before f = or-none (has_number f before)
 
-pub adds_both : (before middle now more others : List ℕ) → Adds before middle more → Adds middle now others → Adds before now (more ++ others)
+pub adds_both : (before middle now more others : List ℕ) → AddsFunctions before middle more → AddsFunctions middle now others → AddsFunctions before now (more ++ others)
 adds_both before middle now more others first second f =
     second f
     ∙ ap (λ (b : Bool). b || has_number f others) (first f)
@@ -84,15 +84,16 @@ flat-more {X = X} F xs i d less =
 
 -- what the items up to the next one add
 pub adds_next : {X : Type 0} (F : X → List ℕ) (xs : List X) (i : ℕ) (d : X) (before middle now : List ℕ) → i < length xs
-    → Adds before middle (flat_map F (take i xs)) → Adds middle now (F (get_or xs i d)) → Adds before now (flat_map F (take (i + 1) xs))
+    → AddsFunctions before middle (flat_map F (take i xs)) → AddsFunctions middle now (F (get_or xs i d)) → AddsFunctions before now (flat_map F (take (i + 1) xs))
 adds_next F xs i d before middle now less first second =
-    subst (λ (more : List ℕ). Adds before now more) (sym (flat-more F xs i d less))
+    subst (λ (more : List ℕ). AddsFunctions before now more) (sym (flat-more F xs i d less))
     (adds_both before middle now (flat_map F (take i xs)) (F (get_or xs i d)) first second)
 
 -- what all items add
-pub adds_all : {X : Type 0} (F : X → List ℕ) (xs : List X) (i : ℕ) (before now : List ℕ) → length xs ≤ i → Adds before now (flat_map F (take i xs)) → Adds before now (flat_map F xs)
+pub adds_all : {X : Type 0} (F : X → List ℕ) (xs : List X) (i : ℕ) (before now : List ℕ) → length xs ≤ i → AddsFunctions before now (flat_map F (take i xs))
+    → AddsFunctions before now (flat_map F xs)
 adds_all {X = X} F xs i before now past adds =
-    subst (λ (ys : List X). Adds before now (flat_map F ys)) (take_all i xs past) adds
+    subst (λ (ys : List X). AddsFunctions before now (flat_map F ys)) (take_all i xs past) adds
 
 pub flat-map : {X Y : Type 0} (F : Y → List ℕ) (f : X → Y) (xs : List X) → flat_map (λ x. F (f x)) xs ≡ flat_map F (map f xs)
 flat-map F f [] = refl
@@ -111,28 +112,28 @@ flat-order (block ∷ blocks) =
 
 -- what all blocks of a body add
 pub adds_body : TreeOfBlock → (body : BodyParts) → BlockRule body → (i : ℕ) (before now : List ℕ) → length body.blocks ≤ i
-    → Adds before now (flat_map (λ block. flat_map referred_by block) (take i body.blocks)) → Adds before now (referred_in (tree_of body 0))
+    → AddsFunctions before now (flat_map (λ block. flat_map referred_by block) (take i body.blocks)) → AddsFunctions before now (referred_in (tree_of body 0))
 adds_body law body rule i before now past adds f =
     adds_all (λ block. flat_map referred_by block) body.blocks i before now past adds f
     ∙ ap (λ (b : Bool). has_number f before || b) (ap (λ (ns : List ℕ). has_number f ns) (flat-order body.blocks) ∙ sym (tree-refers law body rule f))
 
 -- the next block of a body
 pub adds_block : (blocks : Blocks) (i : ℕ) (before middle now : List ℕ) → i < length blocks
-    → Adds before middle (flat_map (λ block. flat_map referred_by block) (take i blocks)) → Adds middle now (flat_map referred_by (block_at blocks i))
-    → Adds before now (flat_map (λ block. flat_map referred_by block) (take (i + 1) blocks))
+    → AddsFunctions before middle (flat_map (λ block. flat_map referred_by block) (take i blocks)) → AddsFunctions middle now (flat_map referred_by (block_at blocks i))
+    → AddsFunctions before now (flat_map (λ block. flat_map referred_by block) (take (i + 1) blocks))
 adds_block blocks i before middle now less first second =
     adds_next (λ block. flat_map referred_by block) blocks i [] before middle now less first
-    (subst (λ (block : List Instr). Adds middle now (flat_map referred_by block)) (unwrap_or-slice_get blocks i []) second)
+    (subst (λ (block : List Instr). AddsFunctions middle now (flat_map referred_by block)) (unwrap_or-slice_get blocks i []) second)
 
 -- all items, seen through a map
 pub adds_mapped : {X Y : Type 0} (F : Y → List ℕ) (f : X → Y) (xs : List X) (i : ℕ) (before now : List ℕ) → length xs ≤ i
-    → Adds before now (flat_map (λ x. F (f x)) (take i xs)) → Adds before now (flat_map F (map f xs))
+    → AddsFunctions before now (flat_map (λ x. F (f x)) (take i xs)) → AddsFunctions before now (flat_map F (map f xs))
 adds_mapped F f xs i before now past adds =
-    subst (λ (more : List ℕ). Adds before now more) (flat-map F f xs) (adds_all (λ x. F (f x)) xs i before now past adds)
+    subst (λ (more : List ℕ). AddsFunctions before now more) (flat-map F f xs) (adds_all (λ x. F (f x)) xs i before now past adds)
 
 -- a whole module
-pub declared_by : (m : Module) (first second third : List ℕ) → Adds [] first (flat_map (λ g. referred_in g.init) m.globals)
-    → Adds first second (flat_map referred_in_segment m.elements) → Adds second third (flat_map (λ e. exported_function e.target) m.exports)
+pub declared_by : (m : Module) (first second third : List ℕ) → AddsFunctions [] first (flat_map (λ g. referred_in g.init) m.globals)
+    → AddsFunctions first second (flat_map referred_in_segment m.elements) → AddsFunctions second third (flat_map (λ e. exported_function e.target) m.exports)
     → HaveSameNumbers third (declared_in m)
 declared_by m first second third globals elements exports =
     let segments = flat_map referred_in_segment m.elements in

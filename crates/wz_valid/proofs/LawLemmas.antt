@@ -1,5 +1,6 @@
 -- The laws that the crates above cite.
-use Rattle.std.proofs.Common.{◌≡◌, ℕ, zero, suc, ◌+◌, ◌<◌, ◌≤◌, List, [], ◌∷◌, ◌++◌, length, Option, Some, None, IsSomeAnd, ◌⊎◌, inl, inr, Bool, true, false, IsTrue, ◌&&◌, ◌==◌, refl, sym, ap, subst, ◌∙◌, take, slice_get, All, arith}
+use Rattle.std.proofs.Common.{◌≡◌, ℕ, zero, suc, ◌+◌, ◌<◌, ◌≤◌, List, [], ◌∷◌, ◌++◌, length, Option, Some, None, IsSomeAnd, ◌⊎◌, inl, inr, Bool, true, false, IsTrue, ◌&&◌, ◌==◌}
+use Rattle.std.proofs.Common.{refl, sym, ap, subst, ◌∙◌, take, slice_get, All, arith}
 use Rattle.std.specs.Prelude.{is_some, ◌||◌}
 use Rattle.std.specs.List.{flat_map}
 use Rattle.std.specs.Option.{option_to_list}
@@ -65,7 +66,8 @@ start_takes_nothing m function valid is =
 
 pub exports_are_there : ExportsAreThere
 exports_are_there m valid =
-    all_items (λ e. IsTarget m e.target) m.exports (λ i less. some_more (slice_get m.exports i) (λ e. IsExportOk m i e) (λ e. IsTarget m e.target) (λ e ok. ok.0) (valid part.Export i less))
+    all_items (λ e. IsTarget m e.target) m.exports
+    (λ i less. some_more (slice_get m.exports i) (λ e. IsExportOk m i e) (λ e. IsTarget m e.target) (λ e ok. ok.0) (valid part.Export i less))
 
 pub globals_are_ok : GlobalsAreOk
 globals_are_ok m valid = all_items (λ g. IsGlobalOk m g) m.globals (valid part.Global)
@@ -184,7 +186,8 @@ segment-there : (m : Module) (e : Elem) (f : ℕ) → IsElemOk m e → Has f (re
 segment-there m e f ok h =
     elim (has-cases f (referred_in_mode e.mode) (flat_map referred_in e.init) h) [
       | inl here ↦ mode-there m e e.mode f ok.1 here
-      | inr later ↦ all-there referred_in (λ init. IsConstant (context_of m) init (type_of_kind e.kind)) (all_functions m) f e.init (λ init t. constant-there (context_of m) init [] (type_of_kind e.kind) t f) ok.0 later
+      | inr later ↦ all-there referred_in (λ init. IsConstant (context_of m) init (type_of_kind e.kind)) (all_functions m) f e.init
+          (λ init t. constant-there (context_of m) init [] (type_of_kind e.kind) t f) ok.0 later
     ]
 
 pub declared_are_there : DeclaredAreThere

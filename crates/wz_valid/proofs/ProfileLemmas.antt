@@ -1,5 +1,6 @@
 -- What a module whose imports are functions has, by its own items.
-use Rattle.std.proofs.Common.{◌≡◌, ℕ, zero, suc, ◌+◌, ◌-◌, ◌<◌, ◌≤◌, List, [], ◌∷◌, ◌++◌, Option, Some, None, refl, sym, ap, subst, ◌∙◌, All, map, take, length, slice_get, get_or, arith, add-zero}
+use Rattle.std.proofs.Common.{◌≡◌, ℕ, zero, suc, ◌+◌, ◌-◌, ◌<◌, ◌≤◌, List, [], ◌∷◌, ◌++◌, Option, Some, None, refl, sym, ap, subst, ◌∙◌, All, map, take, length, slice_get, get_or}
+use Rattle.std.proofs.Common.{arith, add-zero}
 use Rattle.std.specs.List.{sum_by}
 use Rattle.std.specs.Option.{option_map}
 use Rattle.std.proofs.lemmas.List.{take_all}
@@ -16,7 +17,8 @@ use Rattle.wz_code.specs.BodyParts.{BodyParts}
 use Rattle.wz_module.specs.Functions.{BodyTree, body_tree_of}
 use Rattle.wz_module.specs.Module.{Module}
 use Rattle.wz_valid.specs.Indices.{function_import, memory_import, table_import, imported_functions, imported_memories, imported_tables, all_tables}
-use Rattle.wz_valid.specs.Profile.{IsFunctionKind, IsFunctionImport, first_pages, first_entries, pages_limit, entries_limit, params_of, import_params, runs_length, locals_length, own_locals}
+use Rattle.wz_valid.specs.Profile.{IsFunctionKind, IsFunctionImport, first_pages, first_entries, pages_limit, entries_limit, params_of, import_params, runs_length, locals_length}
+use Rattle.wz_valid.specs.Profile.{own_locals}
 use Rattle.wz_valid.specs.Profile.{own_counts, local_counts, HasSmallTables, HasLargeTable}
 use Rattle.wz_valid.proofs.ListLemmas.{slice_get_before, slice_get_behind}
 

@@ -1,5 +1,6 @@
 -- The references that a body's tree makes are those of its instructions, block by block.
-use Rattle.std.proofs.Common.{◌≡◌, ℕ, zero, suc, ◌+◌, ◌<◌, ◌≤◌, List, [], ◌∷◌, ◌++◌, length, Option, Some, None, ◌⊎◌, inl, inr, Bool, true, false, IsTrue, cond, refl, sym, ap, subst, ◌∙◌, append-nil, append_assoc, unwrap_or, arith, ◌==◌}
+use Rattle.std.proofs.Common.{◌≡◌, ℕ, zero, suc, ◌+◌, ◌<◌, ◌≤◌, List, [], ◌∷◌, ◌++◌, length, Option, Some, None, ◌⊎◌, inl, inr, Bool, true, false, IsTrue, cond, refl, sym, ap}
+use Rattle.std.proofs.Common.{subst, ◌∙◌, append-nil, append_assoc, unwrap_or, arith, ◌==◌}
 use Rattle.std.specs.Prelude.{◌||◌}
 use Rattle.std.specs.List.{flat_map}
 use Rattle.std.proofs.lemmas.List.Folds.{list_any-append}

@@ -53,8 +53,8 @@ declared_in m =
 -- ---- sets of functions
 
 -- the numbers of one list and those that others name are the numbers of the list now
-abbrev pub Adds : List ℕ → List ℕ → List ℕ → Type 0
-Adds before now more = (function : ℕ) → has_number function now ≡ (has_number function before || has_number function more)
+abbrev pub AddsFunctions : List ℕ → List ℕ → List ℕ → Type 0
+AddsFunctions before now more = (function : ℕ) → has_number function now ≡ (has_number function before || has_number function more)
 
 -- two lists have the same numbers
 abbrev pub HaveSameNumbers : List ℕ → List ℕ → Type 0

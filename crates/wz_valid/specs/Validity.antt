@@ -8,17 +8,17 @@ use Rattle.wz_valid.specs.Limits.{IsTableOk, IsMemoryOk}
 use Rattle.wz_valid.specs.Items.{IsImportOk, IsFunctionOk, IsBodyOk, IsOnlyMemory, IsGlobalOk, IsExportOk, IsStartOk, IsElemOk, IsDataModeOk}
 
 -- how many items a part has; a start is one
-abbrev pub item_count : Module → Part → ℕ
-item_count m part.Import = length m.imports
-item_count m part.Function = length m.functions
-item_count m part.Table = length m.tables
-item_count m part.Memory = length m.memories
-item_count m part.Global = length m.globals
-item_count m part.Export = length m.exports
-item_count m part.Start = length (option_to_list m.start)
-item_count m part.Element = length m.elements
-item_count m part.Code = length m.bodies
-item_count m part.DataSegment = length m.datas
+abbrev pub part_length : Module → Part → ℕ
+part_length m part.Import = length m.imports
+part_length m part.Function = length m.functions
+part_length m part.Table = length m.tables
+part_length m part.Memory = length m.memories
+part_length m part.Global = length m.globals
+part_length m part.Export = length m.exports
+part_length m part.Start = length (option_to_list m.start)
+part_length m part.Element = length m.elements
+part_length m part.Code = length m.bodies
+part_length m part.DataSegment = length m.datas
 
 -- the item of this number is there and ok
 abbrev pub IsItemOk : Module → Part → ℕ → Type 0
@@ -35,7 +35,7 @@ IsItemOk m part.DataSegment index = IsSomeAnd (slice_get m.datas index) (λ d. I
 
 -- every item of a part is ok
 abbrev pub IsPartOk : Module → Part → Type 0
-IsPartOk m part = (index : ℕ) → index < item_count m part → IsItemOk m part index
+IsPartOk m part = (index : ℕ) → index < part_length m part → IsItemOk m part index
 
 abbrev pub IsValid : Module → Type 0
 IsValid m = (part : Part) → IsPartOk m part
@@ -61,6 +61,6 @@ StandsBefore one index part other = (part_rank one < part_rank part) ⊎ ((one �
 
 -- the item is there and isn't ok, and every one before it is ok
 pub record IsFirstInvalid (m : Module) (part : Part) (index : ℕ) : Type 0 where
-  pub there : index < item_count m part
+  pub there : index < part_length m part
   pub broken : IsItemOk m part index → ⊥
-  pub before : (one : Part) (other : ℕ) → other < item_count m one → StandsBefore one other part index → IsItemOk m one other
+  pub before : (one : Part) (other : ℕ) → other < part_length m one → StandsBefore one other part index → IsItemOk m one other

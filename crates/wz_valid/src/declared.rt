@@ -7,9 +7,12 @@ ghost use Rattle.wz_code.specs.BodyParts.{block_at};
 ghost use Rattle.wz_code.specs.Trees.{tree_of};
 ghost use Rattle.wz_module.specs.Elements.{function_reference};
 ghost use Rattle.wz_module.specs.Meaning.{module_of};
-ghost use Rattle.wz_module.specs.Views.{trees_of, init_of, elem_mode_of, elem_of, global_of, export_of};
-ghost use Rattle.wz_valid.specs.DeclaredFunctions.{Adds, HaveSameNumbers, declared_in, exported_function};
-ghost use Rattle.wz_valid.specs.DeclaredFunctions.{referred_by, referred_in, referred_in_mode, referred_in_segment};
+ghost use Rattle.wz_module.specs.Views.{trees_of, init_of, elem_mode_of, elem_of, global_of};
+ghost use Rattle.wz_module.specs.Views.{export_of};
+ghost use Rattle.wz_valid.specs.DeclaredFunctions.{AddsFunctions, HaveSameNumbers, declared_in};
+ghost use Rattle.wz_valid.specs.DeclaredFunctions.{exported_function};
+ghost use Rattle.wz_valid.specs.DeclaredFunctions.{referred_by, referred_in, referred_in_mode};
+ghost use Rattle.wz_valid.specs.DeclaredFunctions.{referred_in_segment};
 
 use std::alloc::{AllocError, Global};
 use std::collections::BTreeSet;
@@ -17,14 +20,14 @@ use wz_code::{Body, Instr, laws};
 use wz_module::{Elem, ElemItems, ElemMode, Export, ExportTarget, GlobalDef, Module};
 
 fn add_function(function: u32, declared: &mut BTreeSet<u32>) -> Result<(), AllocError>
-    ensures { OnOk result (Adds declared.old.keys declared.new.keys (function ∷ [])) }
+    ensures { OnOk result (AddsFunctions declared.old.keys declared.new.keys (function ∷ [])) }
 {
     declared.insert(function)?;
     Ok(())
 }
 
 fn add_instr(instr: Instr, declared: &mut BTreeSet<u32>) -> Result<(), AllocError>
-    ensures { OnOk result (Adds declared.old.keys declared.new.keys (referred_by instr)) }
+    ensures { OnOk result (AddsFunctions declared.old.keys declared.new.keys (referred_by instr)) }
 {
     // no other instruction makes a reference to a function that it names
     if let Instr::RefFunc(function) = instr {
@@ -35,7 +38,7 @@ fn add_instr(instr: Instr, declared: &mut BTreeSet<u32>) -> Result<(), AllocErro
 
 fn add_code(code: &[Instr], declared: &mut BTreeSet<u32>) -> Result<(), AllocError>
     ensures { let more = flat_map referred_by code.now in
-        OnOk result (Adds declared.old.keys declared.new.keys more) }
+        OnOk result (AddsFunctions declared.old.keys declared.new.keys more) }
 {
     for instr in code {
         add_instr(*instr, declared)?;
@@ -45,7 +48,7 @@ fn add_code(code: &[Instr], declared: &mut BTreeSet<u32>) -> Result<(), AllocErr
 
 fn add_block(body: &Body, number: u32, declared: &mut BTreeSet<u32>) -> Result<(), AllocError>
     ensures { let more = flat_map referred_by (block_at body.now.blocks number) in
-        OnOk result (Adds declared.old.keys declared.new.keys more) }
+        OnOk result (AddsFunctions declared.old.keys declared.new.keys more) }
 {
     match body.block(number) {
         Some(code) => add_code(code, declared),
@@ -55,7 +58,7 @@ fn add_block(body: &Body, number: u32, declared: &mut BTreeSet<u32>) -> Result<(
 
 fn add_body(body: &Body, declared: &mut BTreeSet<u32>) -> Result<(), AllocError>
     ensures { let more = referred_in (tree_of body.now 0) in
-        OnOk result (Adds declared.old.keys declared.new.keys more) }
+        OnOk result (AddsFunctions declared.old.keys declared.new.keys more) }
 {
     // the tree of a body is its blocks, each of which is named once
     laws::tree_of_block();
@@ -67,7 +70,7 @@ fn add_body(body: &Body, declared: &mut BTreeSet<u32>) -> Result<(), AllocError>
 
 fn add_functions(functions: &[u32], declared: &mut BTreeSet<u32>) -> Result<(), AllocError>
     ensures { let more = flat_map referred_in (map function_reference functions.now) in
-        OnOk result (Adds declared.old.keys declared.new.keys more) }
+        OnOk result (AddsFunctions declared.old.keys declared.new.keys more) }
 {
     for function in functions {
         add_function(*function, declared)?;
@@ -77,7 +80,7 @@ fn add_functions(functions: &[u32], declared: &mut BTreeSet<u32>) -> Result<(), 
 
 fn add_bodies(bodies: &[Body], declared: &mut BTreeSet<u32>) -> Result<(), AllocError>
     ensures { let more = flat_map referred_in (trees_of bodies.now) in
-        OnOk result (Adds declared.old.keys declared.new.keys more) }
+        OnOk result (AddsFunctions declared.old.keys declared.new.keys more) }
 {
     for body in bodies {
         add_body(body, declared)?;
@@ -87,7 +90,7 @@ fn add_bodies(bodies: &[Body], declared: &mut BTreeSet<u32>) -> Result<(), Alloc
 
 fn add_mode(mode: &ElemMode, declared: &mut BTreeSet<u32>) -> Result<(), AllocError>
     ensures { let more = referred_in_mode (elem_mode_of mode.now) in
-        OnOk result (Adds declared.old.keys declared.new.keys more) }
+        OnOk result (AddsFunctions declared.old.keys declared.new.keys more) }
 {
     match mode {
         ElemMode::Active { table: _, offset } => add_body(offset, declared),
@@ -98,7 +101,7 @@ fn add_mode(mode: &ElemMode, declared: &mut BTreeSet<u32>) -> Result<(), AllocEr
 
 fn add_items(items: &ElemItems, declared: &mut BTreeSet<u32>) -> Result<(), AllocError>
     ensures { let more = flat_map referred_in (init_of items.now) in
-        OnOk result (Adds declared.old.keys declared.new.keys more) }
+        OnOk result (AddsFunctions declared.old.keys declared.new.keys more) }
 {
     match items {
         ElemItems::Funcs(functions) => add_functions(functions, declared),
@@ -108,14 +111,15 @@ fn add_items(items: &ElemItems, declared: &mut BTreeSet<u32>) -> Result<(), Allo
 
 fn add_segment(segment: &Elem, declared: &mut BTreeSet<u32>) -> Result<(), AllocError>
     ensures { let more = referred_in_segment (elem_of segment.now) in
-        OnOk result (Adds declared.old.keys declared.new.keys more) }
+        OnOk result (AddsFunctions declared.old.keys declared.new.keys more) }
 {
     add_mode(&segment.mode, declared)?;
     add_items(&segment.items, declared)
 }
 
 fn add_target(target: ExportTarget, declared: &mut BTreeSet<u32>) -> Result<(), AllocError>
-    ensures { OnOk result (Adds declared.old.keys declared.new.keys (exported_function target)) }
+    ensures { let more = exported_function target in
+        OnOk result (AddsFunctions declared.old.keys declared.new.keys more) }
 {
     match target {
         ExportTarget::Func(function) => add_function(function, declared),
@@ -127,7 +131,7 @@ fn add_target(target: ExportTarget, declared: &mut BTreeSet<u32>) -> Result<(), 
 
 fn add_globals(globals: &[GlobalDef], declared: &mut BTreeSet<u32>) -> Result<(), AllocError>
     ensures { let more = flat_map (λ g. referred_in g.init) (map global_of globals.now) in
-        OnOk result (Adds declared.old.keys declared.new.keys more) }
+        OnOk result (AddsFunctions declared.old.keys declared.new.keys more) }
 {
     for global in globals {
         add_body(&global.init, declared)?;
@@ -137,7 +141,7 @@ fn add_globals(globals: &[GlobalDef], declared: &mut BTreeSet<u32>) -> Result<()
 
 fn add_segments(segments: &[Elem], declared: &mut BTreeSet<u32>) -> Result<(), AllocError>
     ensures { let more = flat_map referred_in_segment (map elem_of segments.now) in
-        OnOk result (Adds declared.old.keys declared.new.keys more) }
+        OnOk result (AddsFunctions declared.old.keys declared.new.keys more) }
 {
     for segment in segments {
         add_segment(segment, declared)?;
@@ -147,7 +151,7 @@ fn add_segments(segments: &[Elem], declared: &mut BTreeSet<u32>) -> Result<(), A
 
 fn add_exports(exports: &[Export<'_>], declared: &mut BTreeSet<u32>) -> Result<(), AllocError>
     ensures { let more = flat_map (λ e. exported_function e.target) (map export_of exports.now) in
-        OnOk result (Adds declared.old.keys declared.new.keys more) }
+        OnOk result (AddsFunctions declared.old.keys declared.new.keys more) }
 {
     for export in exports {
         add_target(export.target, declared)?;

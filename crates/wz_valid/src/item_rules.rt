@@ -1,6 +1,7 @@
 //! The rules of items that need no typing (Core Specification 2.0, section 3.4).
 
-ghost use Rattle.std.specs.Prelude.{◌≡◌, ◌≤◌, length, take, slice_get, MatchBool, IsTrue, IsSomeAnd, map};
+ghost use Rattle.std.specs.Prelude.{◌≡◌, ◌≤◌, length, take, slice_get, MatchBool, IsTrue};
+ghost use Rattle.std.specs.Prelude.{IsSomeAnd, map};
 ghost use Rattle.wz_module.specs.Meaning.{module_of};
 ghost use Rattle.wz_module.specs.Views.{import_of};
 ghost use Rattle.wz_valid.specs.Indices.{memory_import, imported_memories};

@@ -1,7 +1,8 @@
 //! Laws of valid modules, for the proofs of other crates. A law is the contract of a function that
 //! does nothing.
 
-ghost use Rattle.wz_valid.specs.Laws.{StartTakesNothing, ExportsAreThere, GlobalsAreOk, ElementsAreOk};
+ghost use Rattle.wz_valid.specs.Laws.{StartTakesNothing, ExportsAreThere, GlobalsAreOk};
+ghost use Rattle.wz_valid.specs.Laws.{ElementsAreOk};
 ghost use Rattle.wz_valid.specs.Laws.{DatasAreOk, TypesAreThere, BodiesAreTyped, DeclaredAreThere};
 ghost use Rattle.wz_valid.specs.Laws.{FirstIsOne, ValidHasNone, InsideIsNotOutside};
 

@@ -1,12 +1,15 @@
 //! Whether a valid module is within the profile: what the tool asks for beyond validity.
 
-ghost use Rattle.std.specs.Prelude.{◌≡◌, ◌*◌, ◌^◌, ◌<◌, ◌≤◌, length, slice_get, Some, OnOk, IfErr, MatchBool, All};
+ghost use Rattle.std.specs.Prelude.{◌≡◌, ◌*◌, ◌^◌, ◌<◌, ◌≤◌, length, slice_get, Some, OnOk, IfErr};
+ghost use Rattle.std.specs.Prelude.{MatchBool, All};
 ghost use Rattle.wz_module.specs.Meaning.{module_of};
 ghost use Rattle.wz_module.specs.ShortLists.{HasShortSides};
 ghost use Rattle.wz_valid.specs.Validity.{IsValid};
 ghost use Rattle.wz_valid.specs.Profile.{IsFunctionKind, IsFunctionImport, IsInProfile, IsOutside};
-ghost use Rattle.wz_valid.specs.Profile.{first_pages, pages_limit, HasSmallTables, HasSmallFunctions};
-ghost use Rattle.wz_valid.specs.Profile.{params_of, import_params, runs_length, locals_length, own_counts, local_counts};
+ghost use Rattle.wz_valid.specs.Profile.{first_pages, pages_limit, HasSmallTables};
+ghost use Rattle.wz_valid.specs.Profile.{HasSmallFunctions};
+ghost use Rattle.wz_valid.specs.Profile.{params_of, import_params, runs_length, locals_length};
+ghost use Rattle.wz_valid.specs.Profile.{own_counts, local_counts};
 
 use crate::faults::OutOfProfile;
 use wz_code::Body;

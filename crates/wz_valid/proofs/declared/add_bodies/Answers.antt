@@ -6,4 +6,5 @@ use Rattle.wz_valid.proofs.declared.add_bodies.Goals as goal
 
 pub returns : goal.returns
 returns c =
-    adds_mapped (λ code. referred_in code) (λ body. tree_of body 0) c.args.bodies.now c.loop-body.body-index c.args.declared.now.keys c.loop-body.declared.keys (omega arith) c.loop-body.invariant
+    adds_mapped (λ code. referred_in code) (λ body. tree_of body 0) c.args.bodies.now c.loop-body.body-index
+    c.args.declared.now.keys c.loop-body.declared.keys (omega arith) c.loop-body.invariant

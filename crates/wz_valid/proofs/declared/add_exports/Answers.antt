@@ -6,4 +6,5 @@ use Rattle.wz_valid.proofs.declared.add_exports.Goals as goal
 
 pub returns : goal.returns
 returns c =
-    adds_mapped (λ e. exported_function e.target) (λ e. export_of e) c.args.exports.now c.loop-export.export-index c.args.declared.now.keys c.loop-export.declared.keys (omega arith) c.loop-export.invariant
+    adds_mapped (λ e. exported_function e.target) (λ e. export_of e) c.args.exports.now c.loop-export.export-index
+    c.args.declared.now.keys c.loop-export.declared.keys (omega arith) c.loop-export.invariant

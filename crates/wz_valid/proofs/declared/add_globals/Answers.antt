@@ -6,4 +6,5 @@ use Rattle.wz_valid.proofs.declared.add_globals.Goals as goal
 
 pub returns : goal.returns
 returns c =
-    adds_mapped (λ g. referred_in g.init) (λ g. global_of g) c.args.globals.now c.loop-global.global-index c.args.declared.now.keys c.loop-global.declared.keys (omega arith) c.loop-global.invariant
+    adds_mapped (λ g. referred_in g.init) (λ g. global_of g) c.args.globals.now c.loop-global.global-index
+    c.args.declared.now.keys c.loop-global.declared.keys (omega arith) c.loop-global.invariant

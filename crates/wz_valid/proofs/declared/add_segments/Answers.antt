@@ -6,4 +6,5 @@ use Rattle.wz_valid.proofs.declared.add_segments.Goals as goal
 
 pub returns : goal.returns
 returns c =
-    adds_mapped (λ e. referred_in_segment e) (λ e. elem_of e) c.args.segments.now c.loop-segment.segment-index c.args.declared.now.keys c.loop-segment.declared.keys (omega arith) c.loop-segment.invariant
+    adds_mapped (λ e. referred_in_segment e) (λ e. elem_of e) c.args.segments.now c.loop-segment.segment-index
+    c.args.declared.now.keys c.loop-segment.declared.keys (omega arith) c.loop-segment.invariant

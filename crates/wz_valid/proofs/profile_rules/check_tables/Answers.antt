@@ -19,7 +19,8 @@ returns-then-entries-gt-ENTRIES_LIMIT-clause-outside c =
     let more = sum_by_more (λ (table : TableType). table.limits.min) c.tables-tables.result.now i none c.loop-index-test.true in
     large_table m i (c.loop-index.entries + c.from-entries.result) c.requires.imports c.requires.memories
     (subst (λ (tables : List TableType). i < length tables) e c.loop-index-test.true)
-    (subst (λ (tables : List TableType). first_entries (take (i + 1) tables) ≡ c.loop-index.entries + c.from-entries.result) e (omega (arith, more, c.loop-index.invariant.0, c.from-entries.ensures)))
+    (subst (λ (tables : List TableType). first_entries (take (i + 1) tables) ≡ c.loop-index.entries + c.from-entries.result) e
+    (omega (arith, more, c.loop-index.invariant.0, c.from-entries.ensures)))
     (omega arith)
     (subst (λ (tables : List TableType). first_entries (take i tables) ≤ entries_limit) e (omega (arith, c.loop-index.invariant.0, c.loop-index.invariant.1)))
 
