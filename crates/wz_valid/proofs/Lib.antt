@@ -1,0 +1,6 @@
+mod ContextLemmas
+mod DeclaredLemmas
+mod LawLemmas
+mod ListLemmas
+mod ProfileLemmas
+mod TreeLemmas

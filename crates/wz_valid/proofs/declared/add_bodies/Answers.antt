@@ -1,0 +1,10 @@
+use Rattle.std.proofs.Common.{arith}
+use Rattle.wz_code.specs.Trees.{tree_of}
+use Rattle.wz_valid.specs.DeclaredFunctions.{referred_in}
+use Rattle.wz_valid.proofs.DeclaredLemmas.{adds_mapped}
+use Rattle.wz_valid.proofs.declared.add_bodies.Goals as goal
+
+pub returns : goal.returns
+returns c =
+    adds_mapped (λ code. referred_in code) (λ body. tree_of body 0) c.args.bodies.now c.loop-body.body-index
+    c.args.declared.now.keys c.loop-body.declared.keys (omega arith) c.loop-body.invariant

@@ -1,0 +1,7 @@
+use Rattle.std.proofs.Common.{take}
+use Rattle.std.specs.List.{flat_map}
+use Rattle.wz_valid.specs.DeclaredFunctions.{AddsFunctions, exported_function}
+use Rattle.wz_valid.proofs.declared.add_exports.Given as goal
+
+abbrev pub invariant-loop-export : goal.invariant-loop-export
+invariant-loop-export l = AddsFunctions l.initial.declared.keys l.declared.keys (flat_map (λ e. exported_function e.target) (take l.export-index l.exports))

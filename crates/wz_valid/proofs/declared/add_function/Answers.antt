@@ -1,0 +1,5 @@
+use Rattle.wz_valid.proofs.DeclaredLemmas.{adds_one}
+use Rattle.wz_valid.proofs.declared.add_function.Goals as goal
+
+pub returns : goal.returns
+returns c = adds_one c.args.declared.now c.insert.new.self c.args.function c.in_ok-insert.ensures.updates.0
