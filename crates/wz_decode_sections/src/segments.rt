@@ -9,11 +9,10 @@ ghost use Rattle.wz_decode_sections.specs.FunctionSection.{indices_at};
 ghost use Rattle.wz_decode_sections.specs.ElementSection.{functions_at, expressions_at, function_list_at, expression_list_at, elem_rows, elem_at};
 
 use crate::code_fault::item_fault;
-use crate::types::take_kind;
 use std::alloc::Global as Heap;
 use wz_bytes::{Cursor, Item, ItemFault, take_vector};
 use wz_code::Body;
-use wz_decode_code::read_expr;
+use wz_decode_code::{read_expr, take_kind};
 use wz_module::{Elem, ElemItems, ElemMode};
 use wz_types::RefKind;
 

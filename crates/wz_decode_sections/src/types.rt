@@ -3,35 +3,14 @@
 ghost use Rattle.std.specs.Prelude.{◌≡◌, ◌≤◌, ◌<◌, ◌-◌, ◌^◌, Some, None, length, IfOk, OnOk, IsErrOf};
 ghost use Rattle.std.specs.Option.{option_map};
 ghost use Rattle.wz_bytes.specs.declared.vectors.ItemFault.TheVariants.{Bad};
-ghost use Rattle.wz_decode_code.specs.Types.{type_at, kind_at};
 ghost use Rattle.wz_decode_sections.specs.FunctionTypes.{result_type_at, func_type_at};
 ghost use Rattle.wz_decode_sections.specs.Limits.{limits_at, mem_type_at, table_type_at};
 ghost use Rattle.wz_decode_sections.specs.GlobalTypes.{mutable_at, global_type_at};
 
 use std::alloc::Global as Heap;
 use wz_bytes::{Cursor, Item, ItemFault, take_vector};
-use wz_decode_code::{read_kind, read_type};
+use wz_decode_code::{take_kind, take_type};
 use wz_types::{FuncType, GlobalType, Limits, MemType, RefKind, TableType, ValType};
-
-/// Takes the type of a value.
-fn take_type(cursor: &mut Cursor<'_>) -> Option<ValType>
-    ensures { option_map (λ t. (t, cursor.new.left)) result ≡ type_at cursor.old.left }
-{
-    let left = cursor.left();
-    let (kind, rest) = read_type(left)?;
-    cursor.take(left.len() - rest.len());
-    Some(kind)
-}
-
-/// Takes the type of a reference.
-pub(crate) fn take_kind(cursor: &mut Cursor<'_>) -> Option<RefKind>
-    ensures { option_map (λ k. (k, cursor.new.left)) result ≡ kind_at cursor.old.left }
-{
-    let left = cursor.left();
-    let (kind, rest) = read_kind(left)?;
-    cursor.take(left.len() - rest.len());
-    Some(kind)
-}
 
 struct ValTypes;
 
