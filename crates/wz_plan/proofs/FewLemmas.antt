@@ -26,7 +26,7 @@ greatest_keeps P x (y ∷ ys) all =
     elim (goes_before x (greatest y ys)) as (λ b. P (if b then greatest y ys else x))
     [ true ↦ greatest_keeps P y ys (All-tail P x (y ∷ ys) all) | false ↦ All-head P x (y ∷ ys) all ]
 
-itself : (x : Run) → goes_before x x ≡ false
+pub itself : (x : Run) → goes_before x x ≡ false
 itself x = grind (arith, nat_tests)
 
 -- it goes before none of them
@@ -94,7 +94,7 @@ count_filter_le p q (x ∷ xs) = by_test (q x) refl (count_filter_le p q xs)
         let whole = sum_by-cons (λ y. cond (p y) 1 0) x xs in omega arith)
     by_test false e rest = rw e (let whole = sum_by-cons (λ y. cond (p y) 1 0) x xs in omega arith)
 
-filter_passes : (q : Run → Bool) (xs : List Run) → All (λ x. q x ≡ true) (filter q xs)
+pub filter_passes : (q : Run → Bool) (xs : List Run) → All (λ x. q x ≡ true) (filter q xs)
 filter_passes q [] = All-nil (λ x. q x ≡ true)
 filter_passes q (x ∷ xs) = by_test (q x) refl (filter_passes q xs)
   where
@@ -134,12 +134,12 @@ gaps_apart low (x ∷ y ∷ ys) rises =
     (λ k d h. let above = gaps_above (end_of x + 1) (y ∷ ys) rises.1 k d h in omega arith)
     (gaps_apart (end_of x + 1) (y ∷ ys) rises.1)
 
-length-gaps : (xs : List Run) → length xs ≤ length (gaps xs) + 1
+pub length-gaps : (xs : List Run) → length xs ≤ length (gaps xs) + 1
 length-gaps [] = omega arith
 length-gaps (x ∷ []) = omega arith
 length-gaps (x ∷ y ∷ ys) = let rest = length-gaps (y ∷ ys) in omega arith
 
-is_cut_first : (limit : ℕ) (all : List Run) (gap : Run) → is_cut limit all gap ≡ true → rank all gap < limit - 1
+pub is_cut_first : (limit : ℕ) (all : List Run) (gap : Run) → is_cut limit all gap ≡ true → rank all gap < limit - 1
 is_cut_first limit all gap e = grind (arith, nat_tests)
 
 pub chosen_is_few : (xs : List Run) (limit : ℕ) → 1 ≤ limit → RisesFrom 1 0 xs → length (chosen xs limit) ≤ limit

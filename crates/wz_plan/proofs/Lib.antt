@@ -1,11 +1,13 @@
 pub mod AddLemmas
 pub mod ChoiceLemmas
+pub mod CostLemmas
 pub mod CoverLemmas
 pub mod FewLemmas
 pub mod FirstRunLemmas
 pub mod GapLemmas
 pub mod JoinLemmas
 pub mod LaneLemmas
+pub mod LeastLemmas
 pub mod PlaceLemmas
 pub mod PlanLemmas
 pub mod ScanLemmas

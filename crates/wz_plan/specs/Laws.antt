@@ -4,6 +4,7 @@ use Rattle.std.specs.List.{All}
 use Rattle.wz_plan.specs.declared.runs.Run.{Run}
 use Rattle.wz_plan.specs.Ranges.{shortest_cut, end_of, RisesFrom, EndsBy}
 use Rattle.wz_plan.specs.Plan.{Covers, plan, chosen, runs}
+use Rattle.wz_plan.specs.Least.{IsLeast}
 use Rattle.wz_plan.specs.Scanned.{found_in, found_after, followed_at}
 
 -- what is found in bytes and in more of them is found in all of them together
@@ -58,3 +59,7 @@ PlanIsTight = (bytes : List ℕ) (limit : ℕ) → All (IsTight bytes) (plan byt
 -- it has at most as many ranges as the limit
 abbrev pub PlanIsFew : Type 0
 PlanIsFew = (bytes : List ℕ) (limit : ℕ) → 1 ≤ limit → length (plan bytes limit) ≤ limit
+
+-- no ranges that cover the bytes cost less than the plan, which has the fewest of those that cost as little
+abbrev pub PlanIsLeast : Type 0
+PlanIsLeast = (bytes : List ℕ) (limit : ℕ) → 1 ≤ limit → IsLeast bytes limit (plan bytes limit)

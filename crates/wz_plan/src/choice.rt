@@ -4,6 +4,7 @@ ghost use Rattle.std.specs.Prelude.{◌≡◌, ℕ, ◌+◌, ◌-◌, ◌^◌, �
 ghost use Rattle.wz_plan.specs.declared.runs.Run.{Run as TheRun};
 ghost use Rattle.wz_plan.specs.Ranges.{RisesFrom, EndsBy, gaps, shortest_cut};
 ghost use Rattle.wz_plan.specs.Plan.{goes_before, rank, chosen, plan};
+ghost use Rattle.wz_plan.specs.Least.{IsLeast};
 ghost use Rattle.wz_plan.specs.Scanned.{found_in};
 ghost use Rattle.wz_plan.specs.Collected.{cuts_gap, last_gap};
 
@@ -21,7 +22,8 @@ enum Cuts {
 }
 
 /// The ranges that are left of the runs where the limit - 1 longest gaps are cut, of equally long
-/// ones the lower first, and all others are merged: at most as many ranges as the limit.
+/// ones the lower first, and all others are merged: at most as many ranges as the limit, and of
+/// all that cover the memory those that cost least.
 pub fn choose(alloc: Global, runs: &[Run], limit: u32) -> Result<Vec<Run>, AllocError>
     requires some { 1 ≤ limit }
     requires apart { RisesFrom shortest_cut 0 runs.now }
@@ -30,6 +32,8 @@ pub fn choose(alloc: Global, runs: &[Run], limit: u32) -> Result<Vec<Run>, Alloc
     ensures few { IfOk result (λ ranges. length ranges.items ≤ limit) }
     ensures plan { IfOk result (λ ranges. (bytes : List ℕ) → runs.now ≡ (found_in bytes).runs
         → ranges.items ≡ plan bytes limit) }
+    ensures least { IfOk result (λ ranges. (bytes : List ℕ) → runs.now ≡ (found_in bytes).runs
+        → IsLeast bytes limit ranges.items) }
 {
     let cuts = cuts_of(alloc, runs, limit - 1)?;
     let mut ranges = Vec::new(alloc);

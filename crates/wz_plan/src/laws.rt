@@ -5,6 +5,7 @@
 ghost use Rattle.wz_plan.specs.Laws.{FindsMore, ZerosAddNothing, ChoiceIsPlan};
 ghost use Rattle.wz_plan.specs.Laws.{RunsAreNonzero, RunsRise, RunsCover};
 ghost use Rattle.wz_plan.specs.Laws.{PlanCovers, PlanRises, PlanIsWithin, PlanIsTight, PlanIsFew};
+ghost use Rattle.wz_plan.specs.Laws.{PlanIsLeast};
 
 /// Scans of bytes in several pieces, and the choice among what a scan found.
 pub fn plan_by_scan()
@@ -27,4 +28,9 @@ pub fn ranges_of_plan()
     ensures within { PlanIsWithin }
     ensures tight { PlanIsTight }
     ensures few { PlanIsFew }
+{}
+
+/// No ranges that cover the bytes cost less than a plan.
+pub fn cost_of_plan()
+    ensures least { PlanIsLeast }
 {}

@@ -5,7 +5,8 @@
 //! answer is `plan` of the bytes, which speaks of the bytes alone.
 //!
 //! In `laws`, cite `plan_by_scan` for scans in pieces, `ranges_of_plan` for what the ranges of a
-//! plan hold, how they lie and how many there are, and `runs_of_bytes` for the runs.
+//! plan hold, how they lie and how many there are, `cost_of_plan` for what they cost, and
+//! `runs_of_bytes` for the runs.
 #![tactic(auto)]
 
 mod choice;

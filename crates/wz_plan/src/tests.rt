@@ -1,4 +1,5 @@
-//! Plans of memories, against worked rows and against a slow program that goes by places.
+//! Plans of memories, against worked rows, against a slow program that goes by places, and against
+//! a search through all cuts.
 
 ghost use Rattle.std.specs.Prelude.{◌+◌, ◌≤◌, ◌^◌, length};
 
@@ -206,6 +207,100 @@ fn runs_at_the_ends_of_lanes(rt: HostRuntime) -> Result<(), Fail> {
             Some(Run { at, len: 1 }),
             "last of {len}"
         );
+    }
+    Ok(())
+}
+
+/// What single bytes with these gaps between them cost as segments, and how many ranges they are,
+/// where the gaps with a bit in `cuts` are cut.
+fn cost_of_cuts(gaps: &[usize], cuts: u32) -> (usize, usize) {
+    let mut cost = 9usize;
+    let mut ranges = 1usize;
+    let mut bits = cuts;
+    for gap in gaps {
+        if bits % 2 == 1 {
+            cost = cost.saturating_add(9);
+            ranges = ranges.saturating_add(1);
+        } else {
+            cost = cost.saturating_add(*gap).saturating_add(1);
+        }
+        bits /= 2;
+    }
+    (cost, ranges)
+}
+
+/// The least cost of at most so many ranges, and of these the least number, by trying all cuts.
+fn least_by_search(gaps: &[usize], limit: u32) -> (usize, usize) {
+    let mut least = (usize::MAX, usize::MAX);
+    for cuts in 0..16u32 {
+        let (cost, ranges) = cost_of_cuts(gaps, cuts);
+        let less = cost < least.0 || cost == least.0 && ranges < least.1;
+        if ranges <= limit as usize && less {
+            least = (cost, ranges);
+        }
+    }
+    least
+}
+
+/// What ranges cost as segments.
+fn cost_of(ranges: &[Run]) -> usize {
+    let mut cost = 0usize;
+    for range in ranges {
+        cost = cost.saturating_add(range.len as usize).saturating_add(8);
+    }
+    cost
+}
+
+/// Whether a place lies in one of the ranges.
+fn is_in_one(ranges: &[Run], place: usize) -> bool {
+    for range in ranges {
+        let at = range.at as usize;
+        if at <= place && place < at.saturating_add(range.len as usize) {
+            return true;
+        }
+    }
+    false
+}
+
+/// The chosen ranges cover the memory, cost no more than any others, and are no more of them.
+fn costs_least(rt: &impl Abort, alloc: Global, gaps: &[usize], limit: u32) -> Result<(), Fail> {
+    let bytes = memory_of(alloc, gaps)?;
+    assert!(rt; bytes.len() <= 1_000 && limit >= 1);
+    let (front, back) = bytes.split_at(bytes.len() / 2);
+    let chosen = chosen_of(alloc, front, back, limit)?;
+    let (cost, ranges) = least_by_search(gaps, limit);
+    assert_eq!(rt;
+        cost_of(&chosen),
+        cost,
+        "cost: gaps {gaps:?}, limit {limit}"
+    );
+    assert_eq!(rt;
+        chosen.len(),
+        ranges,
+        "ranges: gaps {gaps:?}, limit {limit}"
+    );
+    for (place, byte) in bytes.iter().enumerate() {
+        let covered = *byte == 0 || is_in_one(&chosen, place);
+        assert!(rt; covered, "place {place}: gaps {gaps:?}, limit {limit}");
+    }
+    Ok(())
+}
+
+/// Up to five runs with gaps of 7 to 11 between them, every pattern, limits 1 to 5.
+#[test]
+fn no_choice_costs_less(rt: HostRuntime) -> Result<(), Fail> {
+    for pattern in 0..625usize {
+        let gaps = [
+            7 + pattern % 5,
+            7 + pattern / 5 % 5,
+            7 + pattern / 25 % 5,
+            7 + pattern / 125 % 5,
+        ];
+        for count in 0..5usize {
+            for limit in 1..6u32 {
+                costs_least(&rt, rt.alloc(), &gaps[..count], limit)?;
+            }
+        }
     }
     Ok(())
 }

@@ -3,11 +3,13 @@ use Rattle.std.proofs.lemmas.List.{take_more, take_all}
 use Rattle.wz_plan.specs.declared.runs.Run.{Run}
 use Rattle.wz_plan.specs.Ranges.{RisesFrom, EndsBy, with_gaps_merged}
 use Rattle.wz_plan.specs.Plan.{chosen}
+use Rattle.wz_plan.specs.Least.{IsLeast}
 use Rattle.wz_plan.specs.Collected.{cuts_gap, added}
 use Rattle.wz_plan.proofs.JoinLemmas.{joined-push}
 use Rattle.wz_plan.proofs.PlanLemmas.{choice_is_plan}
 use Rattle.wz_plan.proofs.ScanLemmas.{rises_weaker, added-if_read}
 use Rattle.wz_plan.proofs.FewLemmas.{chosen_is_few}
+use Rattle.wz_plan.proofs.LeastLemmas.{plan_is_least}
 use Rattle.wz_plan.proofs.ChoiceLemmas.{joined_ends, rises_take, chosen_is}
 use Rattle.wz_plan.proofs.choice.choose.Goals as goal
 
@@ -63,3 +65,13 @@ returns-clause-plan c = λ bytes is.
     ∙ chosen_is (cuts_gap c.in_ok-cuts.cuts) c.args.runs.now c.args.limit c.requires.apart c.in_ok-cuts.ensures
     ∙ ap (λ l. chosen l c.args.limit) is
     ∙ choice_is_plan bytes c.args.limit
+
+pub returns-clause-least : goal.returns-clause-least
+returns-clause-least c = λ bytes is.
+    subst (IsLeast bytes c.args.limit)
+    (sym (c.loop-run.invariant
+    ∙ ap (with_gaps_merged (cuts_gap c.in_ok-cuts.cuts)) (take_all c.loop-run.run-index c.args.runs.now (omega arith))
+    ∙ chosen_is (cuts_gap c.in_ok-cuts.cuts) c.args.runs.now c.args.limit c.requires.apart c.in_ok-cuts.ensures
+    ∙ ap (λ l. chosen l c.args.limit) is
+    ∙ choice_is_plan bytes c.args.limit))
+    (plan_is_least bytes c.args.limit c.requires.some)
