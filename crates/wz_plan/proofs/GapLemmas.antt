@@ -33,7 +33,8 @@ gaps-second cut x y [] h rest = gaps-first cut x y [] (omega arith)
 gaps-second cut x y (z ∷ zs) h rest = by_gap (cut (gap_between y z)) refl
   where
     by_gap : (b : Bool) → cut (gap_between y z) ≡ b
-        → gaps (with_first cut x (with_first cut y (z ∷ zs))) ≡ cond (cut (gap_between x y)) (gap_between x y ∷ gaps (with_first cut y (z ∷ zs))) (gaps (with_first cut y (z ∷ zs)))
+        → gaps (with_first cut x (with_first cut y (z ∷ zs)))
+        ≡ cond (cut (gap_between x y)) (gap_between x y ∷ gaps (with_first cut y (z ∷ zs))) (gaps (with_first cut y (z ∷ zs)))
     by_gap true e = rw e (gaps-first cut x y (z ∷ zs) (omega arith))
     by_gap false e = rw e (gaps-first cut x (hull y z) zs (omega arith))
 

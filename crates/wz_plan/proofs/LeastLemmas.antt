@@ -163,6 +163,7 @@ first_spared limit all top is first =
         let high = spared_long limit all top is in
         let longer = before_longer gap top before in
         absurd (false≢true (sym (first (spared limit all gap (omega arith) e)) ∙ before))
+
     long : (gap : Run) → is_cut limit all gap ≡ true → 8 + (top.len - 8) ≤ gap.len
     long gap cut = ⊎_elim
         (λ shorter.
@@ -172,6 +173,7 @@ first_spared limit all top is first =
         absurd (omega arith))
         (λ longer. let high = spared_long limit all top is in omega arith)
         (cases_lt gap.len top.len)
+
     short : (gap : Run) → (is_spared limit all gap ≡ true → goes_before gap top ≡ false) → is_cut limit all gap ≡ false → gap.len ≤ 8 + (top.len - 8)
     short gap first kept = ⊎_elim
         (λ high. let low = not_before_longer gap top (first (spared limit all gap high kept)) in omega arith)
