@@ -19,6 +19,8 @@ mod fault;
 pub mod laws;
 mod parts;
 mod read;
+#[cfg(test)]
+mod tests;
 
 pub use fault::DecodeFault;
 pub use read::decode;
