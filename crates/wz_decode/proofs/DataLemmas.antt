@@ -1,17 +1,17 @@
 -- Code names a data segment where an instruction of one of its blocks does.
 use Rattle.std.proofs.Common.{◌≡◌, ℕ, zero, suc, ◌+◌, ◌≤◌, ◌<◌, List, [], ◌∷◌, length, map, take, Option, Some, None, Bool, true, false, refl, sym, ap, subst, ◌∙◌, arith, inl, inr}
-use Rattle.std.specs.Prelude.{◌≢◌, ◌||◌, ◌⊎◌, nat_lt, ◌==◌, if◌then◌else◌, unwrap_or, slice_get}
+use Rattle.std.specs.Prelude.{◌≢◌, ◌||◌, ◌⊎◌, ◌==◌}
 use Rattle.std.specs.List.{list_any}
 use Rattle.std.proofs.lemmas.Bool.{cases_Bool, eqb-true, eq-eqb, ne_eqb, lt-ltb}
 use Rattle.wz_types.specs.declared.types.ValType.{ValType}
 use Rattle.wz_code.specs.declared.instr.Instr.{Instr}
 use Rattle.wz_code.specs.declared.instr.Instr.TheVariants as instr
 use Rattle.wz_code.specs.BodyParts.{Blocks, block_at, BodyParts}
-use Rattle.wz_code.specs.Trees.{Leaf, leaf_of, Code, End, Then, arm_of, headed, expand, tree_by, tree_in, tree_of}
+use Rattle.wz_code.specs.Trees.{Leaf, leaf_of, Code, arm_of, headed, expand, tree_by, tree_in, tree_of}
 use Rattle.wz_code.specs.BlockRule.{Every, named, arm_named, times, namings, all_namings, NamesRise, EachOnce, IsBody}
 use Rattle.wz_code.proofs.LawLemmas.{tree_of_block}
 use Rattle.wz_module.specs.Functions.{body_tree_of}
-use Rattle.wz_decode.specs.CountRules.{names_data, leaf_names_data, code_names_data}
+use Rattle.wz_decode.specs.CountRules.{names_data, code_names_data}
 
 or_left : (a b : Bool) → a ≡ true → (a || b) ≡ true
 or_left a b e = rw e refl

@@ -1,46 +1,28 @@
 -- A module that few bytes spell has short lists.
-use Rattle.std.proofs.Common.{◌≡◌, ℕ, ◌+◌, ◌-◌, ◌^◌, ◌≤◌, ◌<◌, List, [], ◌∷◌, ◌++◌, length, map, Option, Some, None, Bool, true, false, refl, sym, ap, subst, ◌∙◌, arith, inl, inr}
-use Rattle.std.specs.Prelude.{◌≢◌, ◌==◌}
-use Rattle.std.specs.List.{All}
+use Rattle.std.proofs.Common.{◌≡◌, ℕ, ◌≤◌, List, [], ◌∷◌, length, None, refl, ap, arith}
 use Rattle.std.proofs.lemmas.List.{length-append, length-map}
-use Rattle.std.proofs.lemmas.List.Elements.{All-nil, All-cons}
-use Rattle.std.proofs.lemmas.Bool.{cases_Bool, eqb-true}
 use Rattle.wz_bytes.specs.Reading.{Form, Reading, IsExact}
 use Rattle.wz_bytes.specs.Unsigned.{unsigned_at}
 use Rattle.wz_bytes.specs.Name.{IsName, name_at}
 use Rattle.wz_bytes.specs.Forms.{Both, Made, IsVector, AreItems, IsBytes}
 use Rattle.wz_bytes.proofs.ReadingLemmas.{none_given}
-use Rattle.wz_types.specs.declared.types.ValType.{ValType}
-use Rattle.wz_types.specs.FunctionType.{FunctionType}
 use Rattle.wz_code.specs.Trees.{Code}
-use Rattle.wz_module.specs.Sections.{Section, payload_of}
-use Rattle.wz_module.specs.Imports.{Import}
-use Rattle.wz_module.specs.Exports.{Export}
-use Rattle.wz_module.specs.Elements.{Elem, PassiveElem, DeclarativeElem, function_reference}
-use Rattle.wz_module.specs.Datas.{DataSegment}
-use Rattle.wz_module.specs.Module.{Module}
-use Rattle.wz_module.specs.ShortLists.{HasShortSides, HasShortNames, HasShortLists}
+use Rattle.wz_module.specs.Elements.{function_reference}
 use Rattle.wz_decode_code.specs.Types.{IsValType, type_at, kind_at}
 use Rattle.wz_decode_code.specs.Instructions.{IsU32}
 use Rattle.wz_decode_code.specs.InstrReading.{u32_at}
 use Rattle.wz_decode_code.specs.Code.{IsExpression}
 use Rattle.wz_decode_sections.specs.Productions.{Production}
-use Rattle.wz_decode_sections.specs.FunctionTypes.{IsResultType, IsFuncType, func_type_at}
-use Rattle.wz_decode_sections.specs.Limits.{IsMemType, mem_type_at, IsTableType, table_type_at}
-use Rattle.wz_decode_sections.specs.ImportSection.{IsImport, import_at}
-use Rattle.wz_decode_sections.specs.GlobalSection.{IsGlobalDef, global_def_at}
-use Rattle.wz_decode_sections.specs.ExportSection.{IsExport, export_at}
+use Rattle.wz_decode_sections.specs.FunctionTypes.{IsResultType}
+use Rattle.wz_decode_sections.specs.Limits.{table_type_at}
+use Rattle.wz_decode_sections.specs.ImportSection.{import_at}
+use Rattle.wz_decode_sections.specs.GlobalSection.{global_def_at}
+use Rattle.wz_decode_sections.specs.ExportSection.{export_at}
 use Rattle.wz_decode_sections.specs.Offsets.{AtOffset, AtPlace}
-use Rattle.wz_decode_sections.specs.ElementSection.{AreFunctions, AreExpressions, IsFunctionList, IsExpressionList, IsElem, elem_at}
-use Rattle.wz_decode_sections.specs.CodeSection.{IsCodeEntry, code_entry_at}
-use Rattle.wz_decode_sections.specs.DataSection.{IsData, data_at}
-use Rattle.wz_decode_sections.proofs.TypeFormLaws.{u32_exact, func_type_exact, mem_type_exact, table_type_exact}
-use Rattle.wz_decode_sections.proofs.ItemLaws.{import_exact, global_def_exact, export_exact, code_entry_exact}
-use Rattle.wz_decode_sections.proofs.SegmentLaws.{elem_exact, data_exact}
-use Rattle.wz_decode.specs.SectionForm.{IsSection, AreSections, section_at}
-use Rattle.wz_decode.specs.Parts.{HoldsList}
-use Rattle.wz_decode.specs.Front.{IsWhole}
-use Rattle.wz_decode.proofs.SectionLaws.{section_exact}
+use Rattle.wz_decode_sections.specs.ElementSection.{AreFunctions, AreExpressions, IsFunctionList, IsExpressionList, elem_at}
+use Rattle.wz_decode_sections.specs.CodeSection.{code_entry_at}
+use Rattle.wz_decode_sections.specs.DataSection.{data_at}
+use Rattle.wz_decode_sections.proofs.TypeFormLaws.{u32_exact}
 
 -- ---- forms that take a byte at least
 

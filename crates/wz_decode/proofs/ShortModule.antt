@@ -1,5 +1,5 @@
 -- A module that few bytes spell has short lists.
-use Rattle.std.proofs.Common.{◌≡◌, ℕ, ◌+◌, ◌-◌, ◌^◌, ◌≤◌, ◌<◌, List, [], ◌∷◌, ◌++◌, length, map, Option, Some, None, Bool, true, false, refl, sym, ap, subst, ◌∙◌, arith, inl, inr}
+use Rattle.std.proofs.Common.{◌≡◌, ℕ, ◌+◌, ◌-◌, ◌^◌, ◌≤◌, ◌<◌, List, [], ◌∷◌, length, Option, Some, None, refl, sym, ap, subst, ◌∙◌, arith, inl, inr}
 use Rattle.std.specs.Prelude.{◌≢◌, ◌==◌}
 use Rattle.std.specs.List.{All}
 use Rattle.std.proofs.lemmas.List.{length-append}
@@ -8,26 +8,21 @@ use Rattle.std.proofs.lemmas.Bool.{cases_Bool, eqb-true}
 use Rattle.wz_bytes.specs.Reading.{Form}
 use Rattle.wz_bytes.specs.Name.{IsName}
 use Rattle.wz_bytes.specs.Forms.{IsByte, Both, IsVector, AreItems, IsBytes}
-use Rattle.wz_types.specs.FunctionType.{FunctionType}
 use Rattle.wz_module.specs.Sections.{Section, payload_of}
-use Rattle.wz_module.specs.Imports.{Import}
-use Rattle.wz_module.specs.Exports.{Export}
-use Rattle.wz_module.specs.Elements.{Elem, PassiveElem, DeclarativeElem}
-use Rattle.wz_module.specs.Datas.{PassiveData, ActiveData, DataSegment}
+use Rattle.wz_module.specs.Elements.{PassiveElem, DeclarativeElem}
+use Rattle.wz_module.specs.Datas.{PassiveData, ActiveData}
 use Rattle.wz_module.specs.Module.{Module}
 use Rattle.wz_module.specs.ShortLists.{HasShortSides, HasShortNames, HasShortLists}
 use Rattle.wz_decode_code.specs.Instructions.{IsU32}
-use Rattle.wz_decode_code.specs.InstrReading.{u32_at}
 use Rattle.wz_decode_sections.specs.Productions.{IsFlag}
-use Rattle.wz_decode_sections.specs.FunctionTypes.{IsResultType, function_type_from, IsFuncType, func_type_at}
-use Rattle.wz_decode_sections.specs.Limits.{IsMemType, mem_type_at, IsTableType, table_type_at}
-use Rattle.wz_decode_sections.specs.ImportSection.{IsImportKind, import_from, IsImport, import_at}
-use Rattle.wz_decode_sections.specs.GlobalSection.{IsGlobalDef, global_def_at}
-use Rattle.wz_decode_sections.specs.ExportSection.{IsExportTarget, export_from, IsExport, export_at}
-use Rattle.wz_decode_sections.specs.Offsets.{AtOffset, AtPlace}
-use Rattle.wz_decode_sections.specs.ElementSection.{AreFunctions, AreExpressions, IsFunctionList, IsExpressionList, elem_from, elem_in_first, elem_in_table, IsElem, elem_at}
-use Rattle.wz_decode_sections.specs.CodeSection.{IsCodeEntry, code_entry_at}
-use Rattle.wz_decode_sections.specs.DataSection.{data_from, IsData, data_at}
+use Rattle.wz_decode_sections.specs.FunctionTypes.{IsResultType, function_type_from, IsFuncType}
+use Rattle.wz_decode_sections.specs.Limits.{IsMemType, IsTableType}
+use Rattle.wz_decode_sections.specs.ImportSection.{IsImportKind, import_from, IsImport}
+use Rattle.wz_decode_sections.specs.GlobalSection.{IsGlobalDef}
+use Rattle.wz_decode_sections.specs.ExportSection.{IsExportTarget, export_from, IsExport}
+use Rattle.wz_decode_sections.specs.ElementSection.{AreFunctions, AreExpressions, IsFunctionList, IsExpressionList, elem_from, elem_in_first, elem_in_table, IsElem}
+use Rattle.wz_decode_sections.specs.CodeSection.{IsCodeEntry}
+use Rattle.wz_decode_sections.specs.DataSection.{data_from, IsData}
 use Rattle.wz_decode_sections.proofs.TypeFormLaws.{u32_exact, func_type_exact, mem_type_exact, table_type_exact}
 use Rattle.wz_decode_sections.proofs.ItemLaws.{import_exact, global_def_exact, export_exact, code_entry_exact}
 use Rattle.wz_decode_sections.proofs.SegmentLaws.{elem_exact, data_exact}

@@ -1,9 +1,7 @@
-use Rattle.std.proofs.Common.{◌≡◌, ◌∙◌, List, Bool, take, refl, ap, arith}
-use Rattle.std.specs.Prelude.{◌||◌}
+use Rattle.std.proofs.Common.{◌∙◌, List, refl, ap, arith}
 use Rattle.std.specs.List.{list_any}
 use Rattle.std.proofs.lemmas.List.{take_all}
 use Rattle.wz_code.specs.declared.instr.Instr.{Instr}
-use Rattle.wz_code.specs.BodyParts.{block_at}
 use Rattle.wz_decode.specs.CountRules.{names_data}
 use Rattle.wz_decode.proofs.DataLemmas.{blocks_more, blocks_are_tree}
 use Rattle.wz_decode.proofs.counts.body_names_data.Goals as goal
