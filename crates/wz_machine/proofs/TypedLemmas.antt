@@ -1,5 +1,5 @@
 -- Typed code names no segment that isn't there, and the context of a state lasts.
-use Rattle.std.proofs.Common.{◌≡◌, ℕ, zero, suc, ◌<◌, List, [], ◌∷◌, ◌++◌, Option, Some, None, IsSomeAnd, Bool, true, false, refl, ap, sym, subst, ◌∙◌, slice_get, map, length, ltb-true}
+use Rattle.std.proofs.Common.{◌≡◌, ℕ, zero, suc, ◌<◌, List, [], ◌∷◌, ◌++◌, Option, Some, None, IsSomeAnd, Bool, true, false, refl, ap, sym, subst, ◌∙◌, slice_get, map, length, ltb-true, is_some}
 use Rattle.std.proofs.lemmas.List.{length-map}
 use Rattle.std.proofs.lemmas.Option.{slice_get_within}
 use Rattle.wz_types.specs.declared.types.ValType.{ValType}
@@ -10,7 +10,7 @@ use Rattle.wz_code.specs.declared.instr.Instr.TheVariants.{TableInit, ElemDrop, 
 use Rattle.wz_code.specs.Trees.{Code, End, Then, InBlock, InLoop, InIf, Leaf, Plain, TableBranch, TypedSelect}
 use Rattle.wz_valid_code.specs.Operands.{Operands, pushed}
 use Rattle.wz_valid_code.specs.Rules.{Rule, rule_if, Leads}
-use Rattle.wz_valid_code.specs.Context.{TypingContext, Scope, Labels, shape_type, is_one_kind, is_there}
+use Rattle.wz_valid_code.specs.Context.{TypingContext, Scope, Labels, shape_type, is_one_kind}
 use Rattle.wz_valid_code.specs.Instructions.{rule_of}
 use Rattle.wz_valid_code.specs.Typing.{IsTyped}
 use Rattle.wz_store.specs.State.{Memory, Element}
@@ -33,7 +33,7 @@ one_kind-there : (kinds : List RefKind) (i : ℕ) (kind other : Option RefKind) 
 one_kind-there kinds i None other is h = absurd (cc h)
 one_kind-there kinds i (Some kind) other is h = slice_get_within kinds i kind is
 
-there-within : {A : Type 0} (kinds : List A) (i : ℕ) (kind : Option A) → slice_get kinds i ≡ kind → is_there kind ≡ true → i < length kinds
+there-within : {A : Type 0} (kinds : List A) (i : ℕ) (kind : Option A) → slice_get kinds i ≡ kind → is_some kind ≡ true → i < length kinds
 there-within kinds i None is h = absurd (cc h)
 there-within kinds i (Some kind) is h = slice_get_within kinds i kind is
 

@@ -6,7 +6,7 @@ use Rattle.wz_types.specs.declared.types.GlobalType.{GlobalType}
 use Rattle.wz_types.specs.FunctionType.{FunctionType}
 use Rattle.wz_code.specs.BodyParts.{BodyParts}
 use Rattle.wz_code.specs.Trees.{Code, tree_of}
-use Rattle.wz_valid_code.specs.Context.{spread}
+use Rattle.wz_valid_code.specs.Context.{locals_of_runs}
 use Rattle.wz_store.specs.declared.function.Function.{Function}
 use Rattle.wz_store.specs.declared.function.Function.TheVariants as stored
 use Rattle.wz_store.specs.State.{Global, Table, Memory, Element, StateOf}
@@ -78,7 +78,7 @@ callable_at types functions index = callable_from types (slice_get functions ind
 
 abbrev pub body_from : Option BodyParts → FunctionBody
 body_from None = NoBody
-body_from (Some body) = OwnBody (spread body.locals) (tree_of body 0)
+body_from (Some body) = OwnBody (locals_of_runs body.locals) (tree_of body 0)
 
 abbrev pub instance_of : List BodyParts → Function → FunctionInstance
 instance_of bodies (stored.Own signature body) = record { signature = signature; body = body_from (slice_get bodies body) }
