@@ -9,7 +9,7 @@ pub enum Bulk {
     Did,
     /// The computation is aborted, and nothing was changed.
     Trap(TrapKind),
-    /// There is no such table, memory or segment, or a reference is not of the table's kind. Nothing
-    /// was changed. Code that is valid never gets here.
+    /// There is no such table, memory or segment, or a reference is not of the table's kind.
+    /// Nothing was changed. Code that is valid never gets here.
     Stuck,
 }

@@ -1,8 +1,8 @@
 //! The table instructions, and the memory instructions on whole ranges, on a store.
 //!
-//! What each makes of a state is said in `specs/TableEffects.antt` and `specs/MemoryEffects.antt`: a
-//! change, a trap, or that no rule fits. Each call answers so and leaves the state so. A trap leaves
-//! everything as it was.
+//! What each makes of a state is said in `specs/TableEffects.antt` and `specs/MemoryEffects.antt`:
+//! a change, a trap, or that no rule fits. Each call answers so and leaves the state so. A trap
+//! leaves everything as it was.
 #![tactic(auto)]
 
 mod bulk;

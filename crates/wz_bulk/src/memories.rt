@@ -9,7 +9,7 @@ ghost use Rattle.wz_bulk.specs.MemoryEffects.{memory_fill_effect, memory_copy_ef
 
 use crate::bulk::Bulk;
 use crate::range::ends_within;
-use std::alloc::{AllocError, Global};
+use std::alloc::AllocError;
 use wz_linear::{Linear, PAGE_SIZE};
 use wz_store::Store;
 use wz_types::TrapKind;
@@ -143,7 +143,7 @@ fn copy_between<'m, M: Linear>(
     if !has_range(source, from, len) {
         return Ok(Bulk::Trap(TrapKind::MemoryBounds));
     }
-    let buffer = copy_of_range(store.allocator(), source, from, len)?;
+    let buffer = copy_of_range(store.new_buffer(), source, from, len)?;
     match store.memory_mut(to_memory) {
         Some(bytes) => {
             let done = bytes.write_slice(to as u64, &buffer)?;
@@ -160,17 +160,18 @@ fn has_range<M: Linear>(memory: &M, at: u32, len: u32) -> bool
     ends_within(at, len, size)
 }
 
+/// The bytes of a range, in a buffer that is handed in empty.
 fn copy_of_range<M: Linear>(
-    alloc: Global,
+    mut buffer: Vec<u8>,
     memory: &M,
     from: u32,
     len: u32,
 ) -> Result<Vec<u8>, AllocError>
-    requires { from + len ≤ length (M.contents memory.now) }
-    ensures value { IfOk result (λ buffer. buffer.items ≡ part (M.contents memory.now) from len) }
-    ensures size { IfOk result (λ buffer. length buffer.items ≡ len) }
+    requires empty { buffer.items ≡ [] }
+    requires within { from + len ≤ length (M.contents memory.now) }
+    ensures value { IfOk result (λ bytes. bytes.items ≡ part (M.contents memory.now) from len) }
+    ensures size { IfOk result (λ bytes. length bytes.items ≡ len) }
 {
-    let mut buffer = Vec::new(alloc);
     buffer.resize(len as usize, 0)?;
     memory.read_into(from as u64, &mut buffer);
     Ok(buffer)

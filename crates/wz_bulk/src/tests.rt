@@ -21,7 +21,8 @@ const NO_MEMORY_THERE: Bulk = Bulk::Trap(TrapKind::MemoryBounds);
 
 const NO_ENTRY_THERE: Bulk = Bulk::Trap(TrapKind::TableBounds);
 
-/// Into which memory, from which, to, from, how many; the answer, and what the first then begins with.
+/// Into which memory, from which, to, from, how many; the answer, and what the first then begins
+/// with.
 const MEMORY_COPIES: [(u32, u32, u32, u32, u32, Bulk, u64, &str); 13] = [
     (
         0,

@@ -1,6 +1,6 @@
 pub mod ReadingLemmas
 pub mod ByteLemmas
-pub mod UnsignedLemmas
+pub mod Widths
 pub mod UnsignedLaws
 pub mod SignedLemmas
 pub mod SignedLaws

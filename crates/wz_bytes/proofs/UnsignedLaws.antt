@@ -4,7 +4,7 @@ use Rattle.std.proofs.lemmas.Bool.{lt-ltb, ltb-true, ltb-false, le-ltb}
 use Rattle.wz_bytes.specs.Reading.{Front, IsExact}
 use Rattle.wz_bytes.specs.Unsigned.{IsUnsigned, unsigned_at}
 use Rattle.wz_bytes.proofs.ReadingLemmas.{bind_some, some_is, chosen, guarded}
-use Rattle.wz_bytes.proofs.UnsignedLemmas.{scaled}
+use Rattle.wz_bytes.proofs.Widths.{scaled}
 
 unsigned_found : (bits : ℕ) (bytes : List ℕ) (n : ℕ) (rest : List ℕ) → unsigned_at bits bytes ≡ Some (n, rest) → Front (λ t n. IsUnsigned bits t n) bytes n rest
 unfolding unsigned_at

@@ -30,7 +30,7 @@ pub fn read_unsigned<const BITS: u32>(bytes: &[u8], at: usize) -> Option<(u64, u
 
 /// The number in front, and the bytes behind it. Most numbers are one byte, which is read at once.
 #[inline]
-#[tactic(auto, using(crate::proofs::UnsignedLemmas::widths), unfolding(crate::specs::Unsigned::unsigned_at))]
+#[tactic(auto, using(crate::proofs::Widths::sizes), unfolding(crate::specs::Unsigned::unsigned_at))]
 pub(crate) fn unsigned_front<const BITS: u32>(bytes: &[u8]) -> Option<(u64, &[u8])>
     requires { IsWidth BITS }
     ensures below { IfSome result (λ r. r.0 < 2 ^ BITS) }
@@ -45,7 +45,7 @@ pub(crate) fn unsigned_front<const BITS: u32>(bytes: &[u8]) -> Option<(u64, &[u8
 
 /// The number of at most so many bits in front, and the bytes behind it. Each call takes seven bits
 /// off.
-#[tactic(auto, using(crate::proofs::UnsignedLemmas::steps), unfolding(crate::specs::Unsigned::unsigned_at))]
+#[tactic(auto, using(crate::proofs::Widths::steps), unfolding(crate::specs::Unsigned::unsigned_at))]
 fn front(bits: u32, bytes: &[u8]) -> Option<(u64, &[u8])>
     requires { bits ≤ 64 }
     ensures below { IfSome result (λ r. r.0 < 2 ^ bits) }

@@ -1,4 +1,5 @@
-//! The data count, code and data. A section is taken where it is in order and its contents are in the grammar.
+//! The data count, code and data. A section is taken where it is in order and its contents are in
+//! the grammar.
 
 ghost use Rattle.std.specs.Prelude.{◌≡◌, ◌<◌, ◌≤◌, ◌-◌, ◌^◌, ◌++◌, ◌∷◌, [], length, IfOk, OnOk, IsErrOf};
 ghost use Rattle.wz_module.specs.Views.{section_of, module_with};
@@ -20,7 +21,8 @@ pub(crate) fn take_data_count<'a>(
     requires small { length section.payload.now < 2 ^ 32 - 1 }
     requires id { section.id ≡ 12 }
     ensures ok { IfOk result (λ now. HasFront (module_with parts.new) now) }
-    ensures sections { OnOk result (parts.new.sections.items ≡ parts.old.sections.items ++ section.entry ∷ []) }
+    ensures sections { OnOk result
+        (parts.new.sections.items ≡ parts.old.sections.items ++ section.entry ∷ []) }
     ensures contents { OnOk result (IsInGrammar (section_of section.entry)) }
     ensures bad { IsErrOf result Bad → MayFollow last (section_of section.entry) → ⊥ }
 {
@@ -44,7 +46,8 @@ pub(crate) fn take_bodies<'a>(
     requires small { length section.payload.now < 2 ^ 32 - 1 }
     requires id { section.id ≡ 10 }
     ensures ok { IfOk result (λ now. HasFront (module_with parts.new) now) }
-    ensures sections { OnOk result (parts.new.sections.items ≡ parts.old.sections.items ++ section.entry ∷ []) }
+    ensures sections { OnOk result
+        (parts.new.sections.items ≡ parts.old.sections.items ++ section.entry ∷ []) }
     ensures contents { OnOk result (IsInGrammar (section_of section.entry)) }
     ensures bad { IsErrOf result Bad → MayFollow last (section_of section.entry) → ⊥ }
 {
@@ -68,7 +71,8 @@ pub(crate) fn take_datas<'a>(
     requires small { length section.payload.now < 2 ^ 32 - 1 }
     requires id { section.id ≡ 11 }
     ensures ok { IfOk result (λ now. HasFront (module_with parts.new) now) }
-    ensures sections { OnOk result (parts.new.sections.items ≡ parts.old.sections.items ++ section.entry ∷ []) }
+    ensures sections { OnOk result
+        (parts.new.sections.items ≡ parts.old.sections.items ++ section.entry ∷ []) }
     ensures contents { OnOk result (IsInGrammar (section_of section.entry)) }
     ensures bad { IsErrOf result Bad → MayFollow last (section_of section.entry) → ⊥ }
 {

@@ -72,7 +72,8 @@ fn is_count(data_count: Option<u32>, datas: usize) -> bool
 
 /// Whether there is a data count if the bodies want one.
 fn is_there_for(data_count: Option<u32>, bodies: &[Body]) -> bool
-    ensures { let there = HasCountFor data_count (map body_tree_of bodies.now) in MatchBool result there (there → ⊥) }
+    ensures { let there = HasCountFor data_count (map body_tree_of bodies.now)
+        in MatchBool result there (there → ⊥) }
 {
     match data_count {
         Some(_) => true,
@@ -82,7 +83,8 @@ fn is_there_for(data_count: Option<u32>, bodies: &[Body]) -> bool
 
 /// Whether the rules between sections hold.
 pub(crate) fn counts_agree(parts: &ModuleParts<'_>) -> bool
-    ensures { let agree = CountsAgree (module_with parts.now) in MatchBool result agree (agree → ⊥) }
+    ensures { let agree = CountsAgree (module_with parts.now)
+        in MatchBool result agree (agree → ⊥) }
 {
     if parts.functions.len() != parts.bodies.len() {
         return false;

@@ -1,4 +1,5 @@
-//! The sections in front of the code: types, imports, functions, tables, memories. A section is taken where it is in order and its contents are in the grammar.
+//! The sections in front of the code: types, imports, functions, tables, memories. A section is
+//! taken where it is in order and its contents are in the grammar.
 
 ghost use Rattle.std.specs.Prelude.{◌≡◌, ◌<◌, ◌≤◌, ◌-◌, ◌^◌, ◌++◌, ◌∷◌, [], length, IfOk, OnOk, IsErrOf};
 ghost use Rattle.wz_module.specs.Views.{section_of, module_with};
@@ -23,7 +24,8 @@ pub(crate) fn take_types<'a>(
     requires small { length section.payload.now < 2 ^ 32 - 1 }
     requires id { section.id ≡ 1 }
     ensures ok { IfOk result (λ now. HasFront (module_with parts.new) now) }
-    ensures sections { OnOk result (parts.new.sections.items ≡ parts.old.sections.items ++ section.entry ∷ []) }
+    ensures sections { OnOk result
+        (parts.new.sections.items ≡ parts.old.sections.items ++ section.entry ∷ []) }
     ensures contents { OnOk result (IsInGrammar (section_of section.entry)) }
     ensures bad { IsErrOf result Bad → MayFollow last (section_of section.entry) → ⊥ }
 {
@@ -47,7 +49,8 @@ pub(crate) fn take_imports<'a>(
     requires small { length section.payload.now < 2 ^ 32 - 1 }
     requires id { section.id ≡ 2 }
     ensures ok { IfOk result (λ now. HasFront (module_with parts.new) now) }
-    ensures sections { OnOk result (parts.new.sections.items ≡ parts.old.sections.items ++ section.entry ∷ []) }
+    ensures sections { OnOk result
+        (parts.new.sections.items ≡ parts.old.sections.items ++ section.entry ∷ []) }
     ensures contents { OnOk result (IsInGrammar (section_of section.entry)) }
     ensures bad { IsErrOf result Bad → MayFollow last (section_of section.entry) → ⊥ }
 {
@@ -71,7 +74,8 @@ pub(crate) fn take_functions<'a>(
     requires small { length section.payload.now < 2 ^ 32 - 1 }
     requires id { section.id ≡ 3 }
     ensures ok { IfOk result (λ now. HasFront (module_with parts.new) now) }
-    ensures sections { OnOk result (parts.new.sections.items ≡ parts.old.sections.items ++ section.entry ∷ []) }
+    ensures sections { OnOk result
+        (parts.new.sections.items ≡ parts.old.sections.items ++ section.entry ∷ []) }
     ensures contents { OnOk result (IsInGrammar (section_of section.entry)) }
     ensures bad { IsErrOf result Bad → MayFollow last (section_of section.entry) → ⊥ }
 {
@@ -95,7 +99,8 @@ pub(crate) fn take_tables<'a>(
     requires small { length section.payload.now < 2 ^ 32 - 1 }
     requires id { section.id ≡ 4 }
     ensures ok { IfOk result (λ now. HasFront (module_with parts.new) now) }
-    ensures sections { OnOk result (parts.new.sections.items ≡ parts.old.sections.items ++ section.entry ∷ []) }
+    ensures sections { OnOk result
+        (parts.new.sections.items ≡ parts.old.sections.items ++ section.entry ∷ []) }
     ensures contents { OnOk result (IsInGrammar (section_of section.entry)) }
     ensures bad { IsErrOf result Bad → MayFollow last (section_of section.entry) → ⊥ }
 {
@@ -119,7 +124,8 @@ pub(crate) fn take_memories<'a>(
     requires small { length section.payload.now < 2 ^ 32 - 1 }
     requires id { section.id ≡ 5 }
     ensures ok { IfOk result (λ now. HasFront (module_with parts.new) now) }
-    ensures sections { OnOk result (parts.new.sections.items ≡ parts.old.sections.items ++ section.entry ∷ []) }
+    ensures sections { OnOk result
+        (parts.new.sections.items ≡ parts.old.sections.items ++ section.entry ∷ []) }
     ensures contents { OnOk result (IsInGrammar (section_of section.entry)) }
     ensures bad { IsErrOf result Bad → MayFollow last (section_of section.entry) → ⊥ }
 {

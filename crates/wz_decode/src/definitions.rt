@@ -1,4 +1,5 @@
-//! Globals, exports, the start, elements. A section is taken where it is in order and its contents are in the grammar.
+//! Globals, exports, the start, elements. A section is taken where it is in order and its contents
+//! are in the grammar.
 
 ghost use Rattle.std.specs.Prelude.{◌≡◌, ◌<◌, ◌≤◌, ◌-◌, ◌^◌, ◌++◌, ◌∷◌, [], length, IfOk, OnOk, IsErrOf};
 ghost use Rattle.wz_module.specs.Views.{section_of, module_with};
@@ -21,7 +22,8 @@ pub(crate) fn take_globals<'a>(
     requires small { length section.payload.now < 2 ^ 32 - 1 }
     requires id { section.id ≡ 6 }
     ensures ok { IfOk result (λ now. HasFront (module_with parts.new) now) }
-    ensures sections { OnOk result (parts.new.sections.items ≡ parts.old.sections.items ++ section.entry ∷ []) }
+    ensures sections { OnOk result
+        (parts.new.sections.items ≡ parts.old.sections.items ++ section.entry ∷ []) }
     ensures contents { OnOk result (IsInGrammar (section_of section.entry)) }
     ensures bad { IsErrOf result Bad → MayFollow last (section_of section.entry) → ⊥ }
 {
@@ -45,7 +47,8 @@ pub(crate) fn take_exports<'a>(
     requires small { length section.payload.now < 2 ^ 32 - 1 }
     requires id { section.id ≡ 7 }
     ensures ok { IfOk result (λ now. HasFront (module_with parts.new) now) }
-    ensures sections { OnOk result (parts.new.sections.items ≡ parts.old.sections.items ++ section.entry ∷ []) }
+    ensures sections { OnOk result
+        (parts.new.sections.items ≡ parts.old.sections.items ++ section.entry ∷ []) }
     ensures contents { OnOk result (IsInGrammar (section_of section.entry)) }
     ensures bad { IsErrOf result Bad → MayFollow last (section_of section.entry) → ⊥ }
 {
@@ -68,7 +71,8 @@ pub(crate) fn take_start<'a>(
     requires small { length section.payload.now < 2 ^ 32 - 1 }
     requires id { section.id ≡ 8 }
     ensures ok { IfOk result (λ now. HasFront (module_with parts.new) now) }
-    ensures sections { OnOk result (parts.new.sections.items ≡ parts.old.sections.items ++ section.entry ∷ []) }
+    ensures sections { OnOk result
+        (parts.new.sections.items ≡ parts.old.sections.items ++ section.entry ∷ []) }
     ensures contents { OnOk result (IsInGrammar (section_of section.entry)) }
     ensures bad { IsErrOf result Bad → MayFollow last (section_of section.entry) → ⊥ }
 {
@@ -92,7 +96,8 @@ pub(crate) fn take_elements<'a>(
     requires small { length section.payload.now < 2 ^ 32 - 1 }
     requires id { section.id ≡ 9 }
     ensures ok { IfOk result (λ now. HasFront (module_with parts.new) now) }
-    ensures sections { OnOk result (parts.new.sections.items ≡ parts.old.sections.items ++ section.entry ∷ []) }
+    ensures sections { OnOk result
+        (parts.new.sections.items ≡ parts.old.sections.items ++ section.entry ∷ []) }
     ensures contents { OnOk result (IsInGrammar (section_of section.entry)) }
     ensures bad { IsErrOf result Bad → MayFollow last (section_of section.entry) → ⊥ }
 {

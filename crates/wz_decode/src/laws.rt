@@ -1,5 +1,5 @@
-//! What holds of the spellings of modules, whatever reads or writes them: the contract of each function
-//! is a law, and its body is empty.
+//! What holds of the spellings of modules, whatever reads or writes them: the contract of each
+//! function is a law, and its body is empty.
 
 ghost use Rattle.wz_decode.specs.Laws.{OneModule, OneFrontOfSections};
 

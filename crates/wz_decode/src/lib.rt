@@ -1,9 +1,10 @@
 //! Whole modules, from bytes.
 //!
 //! `specs.Spelling` says which bytes spell which module, as section 5.5.16 of the WebAssembly Core
-//! Specification 2.0 does: the header, sections in order, and the rules between them. `decode` gives a
-//! module that the bytes spell, or the first of three causes why they spell none. A custom section costs
-//! its entry in the list and the look at its name; nothing recurs by a count or by a depth.
+//! Specification 2.0 does: the header, sections in order, and the rules between them. `decode`
+//! gives a module that the bytes spell, or the first of three causes why they spell none. A custom
+//! section costs its entry in the list and the look at its name; nothing recurs by a count or by a
+//! depth.
 //!
 //! What to cite:
 //! - the meaning of what was read: `found` of `decode`;

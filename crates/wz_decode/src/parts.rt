@@ -1,5 +1,5 @@
-//! The sections of a module, one after the other, with what they hold (Core Specification 2.0, section
-//! 5.5.16).
+//! The sections of a module, one after the other, with what they hold (Core Specification 2.0,
+//! section 5.5.16).
 
 ghost use Rattle.std.specs.Prelude.{◌≡◌, ◌≢◌, ◌<◌, ◌≤◌, ◌-◌, ◌^◌, ◌++◌, ◌∷◌, [], ℕ, List, length, IfOk, OnOk, IsErrOf};
 ghost use Rattle.std.specs.Option.{option_map};
@@ -22,7 +22,8 @@ use wz_module::{ModuleParts, Section};
 
 /// Takes one section, whatever it holds.
 pub(crate) fn take_section<'a>(cursor: &mut Cursor<'a>) -> Option<Section<'a>>
-    ensures { option_map (λ s. (section_of s, cursor.new.left)) result ≡ section_at cursor.old.left }
+    ensures { option_map
+        (λ s. (section_of s, cursor.new.left)) result ≡ section_at cursor.old.left }
 {
     let id = cursor.byte()?;
     let size = cursor.number()?;
@@ -39,7 +40,8 @@ fn take_custom<'a>(
     requires front { HasFront (module_with parts.old) last }
     requires id { section.id ≡ 0 }
     ensures ok { IfOk result (λ now. HasFront (module_with parts.new) now) }
-    ensures sections { OnOk result (parts.new.sections.items ≡ parts.old.sections.items ++ section.entry ∷ []) }
+    ensures sections { OnOk result
+        (parts.new.sections.items ≡ parts.old.sections.items ++ section.entry ∷ []) }
     ensures contents { OnOk result (IsInGrammar (section_of section.entry)) }
     ensures bad { IsErrOf result Bad → MayFollow last (section_of section.entry) → ⊥ }
 {
@@ -61,7 +63,8 @@ fn take_part<'a>(
     requires front { HasFront (module_with parts.old) last }
     requires small { length section.payload.now < 2 ^ 32 - 1 }
     ensures ok { IfOk result (λ now. HasFront (module_with parts.new) now) }
-    ensures sections { OnOk result (parts.new.sections.items ≡ parts.old.sections.items ++ section.entry ∷ []) }
+    ensures sections { OnOk result
+        (parts.new.sections.items ≡ parts.old.sections.items ++ section.entry ∷ []) }
     ensures contents { OnOk result (IsInGrammar (section_of section.entry)) }
     ensures bad { IsErrOf result Bad → MayFollow last (section_of section.entry) → ⊥ }
 {

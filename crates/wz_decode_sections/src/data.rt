@@ -14,7 +14,8 @@ use wz_module::{DataMode, DataSegment};
 /// Behind the flag 0: an offset in memory 0, and the bytes.
 fn take_in_first<'a>(alloc: Heap, cursor: &mut Cursor<'a>) -> Result<DataSegment<'a>, ItemFault>
     requires { length cursor.old.left < 2 ^ 32 - 1 }
-    ensures ok { IfOk result (λ d. data_rows 0 cursor.old.left ≡ Some (data_of d, cursor.new.left)) }
+    ensures ok { IfOk result
+        (λ d. data_rows 0 cursor.old.left ≡ Some (data_of d, cursor.new.left)) }
     ensures bad { IsErrOf result Bad → data_rows 0 cursor.old.left ≡ None }
 {
     let offset = take_expr(alloc, cursor)?;
@@ -28,7 +29,8 @@ fn take_in_first<'a>(alloc: Heap, cursor: &mut Cursor<'a>) -> Result<DataSegment
 /// Behind the flag 2: a memory, an offset in it, and the bytes.
 fn take_in_memory<'a>(alloc: Heap, cursor: &mut Cursor<'a>) -> Result<DataSegment<'a>, ItemFault>
     requires { length cursor.old.left < 2 ^ 32 - 1 }
-    ensures ok { IfOk result (λ d. data_rows 2 cursor.old.left ≡ Some (data_of d, cursor.new.left)) }
+    ensures ok { IfOk result
+        (λ d. data_rows 2 cursor.old.left ≡ Some (data_of d, cursor.new.left)) }
     ensures bad { IsErrOf result Bad → data_rows 2 cursor.old.left ≡ None }
 {
     let Some(memory) = cursor.number() else {
@@ -44,7 +46,8 @@ fn take_in_memory<'a>(alloc: Heap, cursor: &mut Cursor<'a>) -> Result<DataSegmen
 
 /// Behind the flag 1: the bytes.
 fn take_passive<'a>(cursor: &mut Cursor<'a>) -> Result<DataSegment<'a>, ItemFault>
-    ensures ok { IfOk result (λ d. data_rows 1 cursor.old.left ≡ Some (data_of d, cursor.new.left)) }
+    ensures ok { IfOk result
+        (λ d. data_rows 1 cursor.old.left ≡ Some (data_of d, cursor.new.left)) }
     ensures bad { IsErrOf result Bad → data_rows 1 cursor.old.left ≡ None }
 {
     let Some(bytes) = take_bytes(cursor) else {

@@ -3,7 +3,8 @@
 use std::alloc::{AllocError, AllocFailed};
 use wz_bytes::ItemFault;
 
-/// Why no contents of a section were read: the payload spells none, or there was no memory for them.
+/// Why no contents of a section were read: the payload spells none, or there was no memory for
+/// them.
 #[derive(Clone, Copy, Debug, PartialEq, Eq)]
 pub enum SectionFault {
     Bad,

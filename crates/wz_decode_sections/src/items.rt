@@ -1,5 +1,5 @@
-//! Imports, exports, globals and code entries (Core Specification 2.0, sections 5.5.5, 5.5.9, 5.5.10
-//! and 5.5.13).
+//! Imports, exports, globals and code entries (Core Specification 2.0, sections 5.5.5, 5.5.9,
+//! 5.5.10 and 5.5.13).
 
 ghost use Rattle.std.specs.Prelude.{◌≡◌, ◌≤◌, ◌<◌, ◌-◌, ◌^◌, Some, None, length, IfOk, OnOk, IsErrOf};
 ghost use Rattle.std.specs.Option.{option_map};
@@ -63,7 +63,8 @@ pub(crate) fn take_export<'a>(cursor: &mut Cursor<'a>) -> Option<Export<'a>>
 
 pub(crate) fn take_global(alloc: Heap, cursor: &mut Cursor<'_>) -> Result<GlobalDef, ItemFault>
     requires { length cursor.old.left < 2 ^ 32 - 1 }
-    ensures ok { IfOk result (λ g. global_def_at cursor.old.left ≡ Some (global_of g, cursor.new.left)) }
+    ensures ok { IfOk result
+        (λ g. global_def_at cursor.old.left ≡ Some (global_of g, cursor.new.left)) }
     ensures bad { IsErrOf result Bad → global_def_at cursor.old.left ≡ None }
 {
     let Some(kind) = take_global_type(cursor) else {
@@ -86,7 +87,8 @@ pub(crate) fn take_bytes<'a>(cursor: &mut Cursor<'a>) -> Option<&'a [u8]>
 /// Takes a function's locals and instructions, with their size in front.
 pub(crate) fn take_code_entry(alloc: Heap, cursor: &mut Cursor<'_>) -> Result<Body, ItemFault>
     requires { length cursor.old.left < 2 ^ 32 - 1 }
-    ensures ok { IfOk result (λ b. code_entry_at cursor.old.left ≡ Some (body_tree_of b, cursor.new.left)) }
+    ensures ok { IfOk result
+        (λ b. code_entry_at cursor.old.left ≡ Some (body_tree_of b, cursor.new.left)) }
     ensures bad { IsErrOf result Bad → code_entry_at cursor.old.left ≡ None }
 {
     let Some(entry) = take_bytes(cursor) else {

@@ -1,9 +1,10 @@
 //! The contents of sections, from bytes.
 //!
-//! `specs` has a module for each section of 5.5 of the WebAssembly Core Specification 2.0, which says
-//! which payloads spell which items, production by production. Each call takes a whole payload. It gives
-//! the items that the payload spells, or `Bad` exactly where it spells none. No list reserves more than a
-//! few items by a count before they are read, and nothing recurs by a count or by a depth.
+//! `specs` has a module for each section of 5.5 of the WebAssembly Core Specification 2.0, which
+//! says which payloads spell which items, production by production. Each call takes a whole
+//! payload. It gives the items that the payload spells, or `Bad` exactly where it spells none. No
+//! list reserves more than a few items by a count before they are read, and nothing recurs by a
+//! count or by a depth.
 //!
 //! What to cite:
 //! - the meaning of what was read: `found` and `bad` of each call;

@@ -46,7 +46,8 @@ pub fn read_types(alloc: Global, payload: &[u8]) -> Result<Vec<FuncType>, Sectio
 /// The contents of the import section (section 5.5.5). Names are borrowed.
 pub fn read_imports<'a>(alloc: Global, payload: &'a [u8]) -> Result<Vec<Import<'a>>, SectionFault>
     requires { length payload.now < 2 ^ 32 - 1 }
-    ensures found { IfOk result (λ imports. IsImportSection payload.now (map import_of imports.items)) }
+    ensures found { IfOk result
+        (λ imports. IsImportSection payload.now (map import_of imports.items)) }
     ensures bad { IsErrOf result Bad → SpellsNone IsImportSection payload.now }
 {
     match read_all::<Imports>(alloc, payload) {
@@ -94,7 +95,8 @@ pub fn read_memories(alloc: Global, payload: &[u8]) -> Result<Vec<MemType>, Sect
 /// The contents of the global section (section 5.5.9).
 pub fn read_globals(alloc: Global, payload: &[u8]) -> Result<Vec<GlobalDef>, SectionFault>
     requires { length payload.now < 2 ^ 32 - 1 }
-    ensures found { IfOk result (λ globals. IsGlobalSection payload.now (map global_of globals.items)) }
+    ensures found { IfOk result
+        (λ globals. IsGlobalSection payload.now (map global_of globals.items)) }
     ensures bad { IsErrOf result Bad → SpellsNone IsGlobalSection payload.now }
 {
     match read_all::<Globals>(alloc, payload) {
@@ -106,7 +108,8 @@ pub fn read_globals(alloc: Global, payload: &[u8]) -> Result<Vec<GlobalDef>, Sec
 /// The contents of the export section (section 5.5.10). Names are borrowed.
 pub fn read_exports<'a>(alloc: Global, payload: &'a [u8]) -> Result<Vec<Export<'a>>, SectionFault>
     requires { length payload.now < 2 ^ 32 - 1 }
-    ensures found { IfOk result (λ exports. IsExportSection payload.now (map export_of exports.items)) }
+    ensures found { IfOk result
+        (λ exports. IsExportSection payload.now (map export_of exports.items)) }
     ensures bad { IsErrOf result Bad → SpellsNone IsExportSection payload.now }
 {
     match read_all::<Exports>(alloc, payload) {
@@ -118,7 +121,8 @@ pub fn read_exports<'a>(alloc: Global, payload: &'a [u8]) -> Result<Vec<Export<'
 /// The contents of the element section (section 5.5.12).
 pub fn read_elements(alloc: Global, payload: &[u8]) -> Result<Vec<Elem>, SectionFault>
     requires { length payload.now < 2 ^ 32 - 1 }
-    ensures found { IfOk result (λ elements. IsElementSection payload.now (map elem_of elements.items)) }
+    ensures found { IfOk result
+        (λ elements. IsElementSection payload.now (map elem_of elements.items)) }
     ensures bad { IsErrOf result Bad → SpellsNone IsElementSection payload.now }
 {
     match read_all::<Elements>(alloc, payload) {
@@ -130,7 +134,8 @@ pub fn read_elements(alloc: Global, payload: &[u8]) -> Result<Vec<Elem>, Section
 /// The contents of the code section (section 5.5.13).
 pub fn read_code(alloc: Global, payload: &[u8]) -> Result<Vec<Body>, SectionFault>
     requires { length payload.now < 2 ^ 32 - 1 }
-    ensures found { IfOk result (λ bodies. IsCodeSection payload.now (map body_tree_of bodies.items)) }
+    ensures found { IfOk result
+        (λ bodies. IsCodeSection payload.now (map body_tree_of bodies.items)) }
     ensures bad { IsErrOf result Bad → SpellsNone IsCodeSection payload.now }
 {
     match read_all::<CodeEntries>(alloc, payload) {

@@ -19,7 +19,8 @@ use wz_types::RefKind;
 /// Takes an expression.
 pub(crate) fn take_expr(alloc: Heap, cursor: &mut Cursor<'_>) -> Result<Body, ItemFault>
     requires { length cursor.old.left < 2 ^ 32 - 1 }
-    ensures ok { IfOk result (λ b. expression_at cursor.old.left ≡ Some (tree_of b 0, cursor.new.left)) }
+    ensures ok { IfOk result
+        (λ b. expression_at cursor.old.left ≡ Some (tree_of b 0, cursor.new.left)) }
     ensures bad { IsErrOf result Bad → expression_at cursor.old.left ≡ None }
     ensures left { OnOk result (length cursor.new.left ≤ length cursor.old.left) }
 {
@@ -77,7 +78,8 @@ fn take_indices(alloc: Heap, cursor: &mut Cursor<'_>) -> Result<Vec<u32>, ItemFa
 
 fn take_bodies(alloc: Heap, cursor: &mut Cursor<'_>) -> Result<Vec<Body>, ItemFault>
     requires { length cursor.old.left < 2 ^ 32 - 1 }
-    ensures ok { IfOk result (λ bs. expressions_at cursor.old.left ≡ Some (trees_of bs.items, cursor.new.left)) }
+    ensures ok { IfOk result
+        (λ bs. expressions_at cursor.old.left ≡ Some (trees_of bs.items, cursor.new.left)) }
     ensures bad { IsErrOf result Bad → expressions_at cursor.old.left ≡ None }
 {
     take_vector::<Expressions>(alloc, cursor)
@@ -86,7 +88,8 @@ fn take_bodies(alloc: Heap, cursor: &mut Cursor<'_>) -> Result<Vec<Body>, ItemFa
 /// Takes functions' indices, which stand for references to them.
 fn take_functions(alloc: Heap, cursor: &mut Cursor<'_>) -> Result<ElemItems, ItemFault>
     requires { length cursor.old.left < 2 ^ 32 - 1 }
-    ensures ok { IfOk result (λ i. functions_at cursor.old.left ≡ Some (init_of i, cursor.new.left)) }
+    ensures ok { IfOk result
+        (λ i. functions_at cursor.old.left ≡ Some (init_of i, cursor.new.left)) }
     ensures bad { IsErrOf result Bad → functions_at cursor.old.left ≡ None }
 {
     let indices = take_indices(alloc, cursor)?;
@@ -96,7 +99,8 @@ fn take_functions(alloc: Heap, cursor: &mut Cursor<'_>) -> Result<ElemItems, Ite
 /// Takes expressions of references.
 fn take_expressions(alloc: Heap, cursor: &mut Cursor<'_>) -> Result<ElemItems, ItemFault>
     requires { length cursor.old.left < 2 ^ 32 - 1 }
-    ensures ok { IfOk result (λ i. expressions_at cursor.old.left ≡ Some (init_of i, cursor.new.left)) }
+    ensures ok { IfOk result
+        (λ i. expressions_at cursor.old.left ≡ Some (init_of i, cursor.new.left)) }
     ensures bad { IsErrOf result Bad → expressions_at cursor.old.left ≡ None }
 {
     let bodies = take_bodies(alloc, cursor)?;
@@ -109,7 +113,8 @@ fn take_function_list(
     cursor: &mut Cursor<'_>,
 ) -> Result<(RefKind, ElemItems), ItemFault>
     requires { length cursor.old.left < 2 ^ 32 - 1 }
-    ensures ok { IfOk result (λ r. function_list_at cursor.old.left ≡ Some ((r.0, init_of r.1), cursor.new.left)) }
+    ensures ok { IfOk result
+        (λ r. function_list_at cursor.old.left ≡ Some ((r.0, init_of r.1), cursor.new.left)) }
     ensures bad { IsErrOf result Bad → function_list_at cursor.old.left ≡ None }
 {
     let Some(0x00) = cursor.byte() else {
@@ -125,7 +130,8 @@ fn take_expression_list(
     cursor: &mut Cursor<'_>,
 ) -> Result<(RefKind, ElemItems), ItemFault>
     requires { length cursor.old.left < 2 ^ 32 - 1 }
-    ensures ok { IfOk result (λ r. expression_list_at cursor.old.left ≡ Some ((r.0, init_of r.1), cursor.new.left)) }
+    ensures ok { IfOk result
+        (λ r. expression_list_at cursor.old.left ≡ Some ((r.0, init_of r.1), cursor.new.left)) }
     ensures bad { IsErrOf result Bad → expression_list_at cursor.old.left ≡ None }
 {
     let Some(kind) = take_kind(cursor) else {
@@ -138,7 +144,8 @@ fn take_expression_list(
 /// Behind the flag 0: an offset in table 0, and functions.
 fn take_functions_in_first(alloc: Heap, cursor: &mut Cursor<'_>) -> Result<Elem, ItemFault>
     requires { length cursor.old.left < 2 ^ 32 - 1 }
-    ensures ok { IfOk result (λ e. elem_rows 0 cursor.old.left ≡ Some (elem_of e, cursor.new.left)) }
+    ensures ok { IfOk result
+        (λ e. elem_rows 0 cursor.old.left ≡ Some (elem_of e, cursor.new.left)) }
     ensures bad { IsErrOf result Bad → elem_rows 0 cursor.old.left ≡ None }
 {
     let offset = take_expr(alloc, cursor)?;
@@ -153,7 +160,8 @@ fn take_functions_in_first(alloc: Heap, cursor: &mut Cursor<'_>) -> Result<Elem,
 /// Behind the flag 2: a table, an offset in it, and functions.
 fn take_functions_in_table(alloc: Heap, cursor: &mut Cursor<'_>) -> Result<Elem, ItemFault>
     requires { length cursor.old.left < 2 ^ 32 - 1 }
-    ensures ok { IfOk result (λ e. elem_rows 2 cursor.old.left ≡ Some (elem_of e, cursor.new.left)) }
+    ensures ok { IfOk result
+        (λ e. elem_rows 2 cursor.old.left ≡ Some (elem_of e, cursor.new.left)) }
     ensures bad { IsErrOf result Bad → elem_rows 2 cursor.old.left ≡ None }
 {
     let Some(table) = cursor.number() else {
@@ -168,7 +176,8 @@ fn take_functions_in_table(alloc: Heap, cursor: &mut Cursor<'_>) -> Result<Elem,
 /// Behind the flag 4: an offset in table 0, and expressions.
 fn take_expressions_in_first(alloc: Heap, cursor: &mut Cursor<'_>) -> Result<Elem, ItemFault>
     requires { length cursor.old.left < 2 ^ 32 - 1 }
-    ensures ok { IfOk result (λ e. elem_rows 4 cursor.old.left ≡ Some (elem_of e, cursor.new.left)) }
+    ensures ok { IfOk result
+        (λ e. elem_rows 4 cursor.old.left ≡ Some (elem_of e, cursor.new.left)) }
     ensures bad { IsErrOf result Bad → elem_rows 4 cursor.old.left ≡ None }
 {
     let offset = take_expr(alloc, cursor)?;
@@ -183,7 +192,8 @@ fn take_expressions_in_first(alloc: Heap, cursor: &mut Cursor<'_>) -> Result<Ele
 /// Behind the flag 6: a table, an offset in it, and expressions.
 fn take_expressions_in_table(alloc: Heap, cursor: &mut Cursor<'_>) -> Result<Elem, ItemFault>
     requires { length cursor.old.left < 2 ^ 32 - 1 }
-    ensures ok { IfOk result (λ e. elem_rows 6 cursor.old.left ≡ Some (elem_of e, cursor.new.left)) }
+    ensures ok { IfOk result
+        (λ e. elem_rows 6 cursor.old.left ≡ Some (elem_of e, cursor.new.left)) }
     ensures bad { IsErrOf result Bad → elem_rows 6 cursor.old.left ≡ None }
 {
     let Some(table) = cursor.number() else {
@@ -214,7 +224,8 @@ pub(crate) fn take_elem_behind(
     cursor: &mut Cursor<'_>,
 ) -> Result<Elem, ItemFault>
     requires { length cursor.old.left < 2 ^ 32 - 1 }
-    ensures ok { IfOk result (λ e. elem_rows flag cursor.old.left ≡ Some (elem_of e, cursor.new.left)) }
+    ensures ok { IfOk result
+        (λ e. elem_rows flag cursor.old.left ≡ Some (elem_of e, cursor.new.left)) }
     ensures bad { IsErrOf result Bad → elem_rows flag cursor.old.left ≡ None }
 {
     let (mode, (kind, items)) = match flag {

@@ -15,8 +15,9 @@ use std::alloc::Global;
 use wz_bytes::{Cursor, ItemFault};
 use wz_module::Span;
 
-/// The segments' places in the payload of an element section (Core Specification 2.0, section 5.5.12),
-/// with the lengths of their flags and of themselves. `Bad` comes just where `read_elements` answers it.
+/// The segments' places in the payload of an element section (Core Specification 2.0, section
+/// 5.5.12), with the lengths of their flags and of themselves. `Bad` comes just where
+/// `read_elements` answers it.
 pub fn element_spans(alloc: Global, payload: &[u8]) -> Result<Vec<Span>, SectionFault>
     requires { length payload.now < 2 ^ 32 - 1 }
     ensures found { IfOk result (λ r. (es : List ElemTree) × HasSpans payload.now es r.items) }

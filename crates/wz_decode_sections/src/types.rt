@@ -35,7 +35,8 @@ impl<'a> Item<'a> for ValTypes {
 /// Takes the types of parameters or results.
 fn take_result_type(alloc: Heap, cursor: &mut Cursor<'_>) -> Result<Vec<ValType>, ItemFault>
     requires { length cursor.old.left < 2 ^ 32 - 1 }
-    ensures ok { IfOk result (λ ts. result_type_at cursor.old.left ≡ Some (ts.items, cursor.new.left)) }
+    ensures ok { IfOk result
+        (λ ts. result_type_at cursor.old.left ≡ Some (ts.items, cursor.new.left)) }
     ensures bad { IsErrOf result Bad → result_type_at cursor.old.left ≡ None }
     ensures left { OnOk result (length cursor.new.left ≤ length cursor.old.left) }
 {

@@ -1,5 +1,5 @@
-//! Samples of small numbers byte by byte, and the length and the sum of the bytes of larger ones, as
-//! a script of its own gives them.
+//! Samples of small numbers byte by byte, and the length and the sum of the bytes of larger ones,
+//! as a script of its own gives them.
 
 use crate::sample;
 use std::process::Abort;

@@ -1,7 +1,7 @@
 //! What a memory holds after a write, stated once for all memories.
 //!
-//! These functions do nothing. A caller's proof cites what they ensure, which speaks of lists of bytes
-//! alone and so of every `Linear`.
+//! These functions do nothing. A caller's proof cites what they ensure, which speaks of lists of
+//! bytes alone and so of every `Linear`.
 
 ghost use Rattle.wz_linear.specs.Laws.{WriteKeepsSize, RangeIsFull, ReadsWhatWasWritten, ReadsAllWritten, ReadsWhatStoodApart, HoldsWhatWasWritten, HoldsWhatStoodApart};
 ghost use Rattle.wz_linear.specs.Laws.{WritesJoin, WritesReplace, WritesSwap, WriteOfSame};

@@ -46,7 +46,8 @@ pub trait Linear: Drop {
     fn load(&self, at: u64, width: u32) -> Option<u64>
         requires { IsAccessWidth width }
         ensures found { SomeIff result
-            (IsWithin (contents self.now) at width) (number_of (part (contents self.now) at width)) }
+            (IsWithin (contents self.now) at width)
+            (number_of (part (contents self.now) at width)) }
         ensures narrow { IfSome result (λ number. number < 256 ^ width) };
 
     /// Writes the lowest bytes of the value, the lowest first, at `at`.
@@ -75,7 +76,8 @@ pub trait Linear: Drop {
         ensures within { IfOk result (λ done. IsTrue done ↔
             (IsWithin (contents self.old) to len × IsWithin (contents self.old) from len)) }
         ensures copied { IfOk result (λ done. OnTrue done
-            (contents self.new ≡ written (contents self.old) to (part (contents self.old) from len))) }
+            (contents self.new ≡
+            written (contents self.old) to (part (contents self.old) from len))) }
         ensures outside { IfOk result (λ done. OnFalse done
             (contents self.new ≡ contents self.old)) }
         ensures refused { OnErr result (contents self.new ≡ contents self.old) }
@@ -98,7 +100,8 @@ pub trait Linear: Drop {
         ensures copied { OnTrue result (out.new ≡ part (contents self.now) at (length out.old)) }
         ensures outside { OnFalse result (out.new ≡ out.old) };
 
-    /// Whether it is known, without a look at its bytes, that the page holds zeros alone. Takes no memory.
+    /// Whether it is known, without a look at its bytes, that the page holds zeros alone. Takes no
+    /// memory.
     fn untouched(&self, page: u32) -> bool
         requires { (page + 1) * PAGE_SIZE ≤ length (contents self.now) }
         ensures { OnTrue result

@@ -1,9 +1,10 @@
 //! A module in memory: its sections as they stand in the binary, and what they hold.
 //!
-//! All of it is plain data. Names, payloads and the bytes of data segments are borrowed from the bytes
-//! that the module was read from. What a `Module` means is the record that `specs.Module` defines after
-//! section 2.5 of the WebAssembly Core Specification 2.0, in which bodies and expressions are trees;
-//! `module_of` gives it. `specs.Sections` has the order of sections and the payload of each.
+//! All of it is plain data. Names, payloads and the bytes of data segments are borrowed from the
+//! bytes that the module was read from. What a `Module` means is the record that `specs.Module`
+//! defines after section 2.5 of the WebAssembly Core Specification 2.0, in which bodies and
+//! expressions are trees; `module_of` gives it. `specs.Sections` has the order of sections and the
+//! payload of each.
 //!
 //! What to cite:
 //! - what a call lends: its clause, by which the items are those of `module_of`;
@@ -12,6 +13,8 @@
 
 mod items;
 mod module;
+#[cfg(test)]
+mod tests;
 
 pub use items::{
     DataMode, DataSegment, Elem, ElemItems, ElemMode, Export, ExportTarget, GlobalDef, Import,

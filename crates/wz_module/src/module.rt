@@ -7,8 +7,8 @@ use crate::items::{DataSegment, Elem, Export, GlobalDef, Import, Section};
 use wz_code::Body;
 use wz_types::{FuncType, MemType, TableType};
 
-/// What a module is made of. `functions` has the numbers of the types of the module's own functions,
-/// and `bodies` what they do.
+/// What a module is made of. `functions` has the numbers of the types of the module's own
+/// functions, and `bodies` what they do.
 #[derive(Drop)]
 pub struct ModuleParts<'a> {
     pub sections: Vec<Section<'a>>,

@@ -15,8 +15,8 @@ use std::marker::Model;
 use wz_linear::{Linear, MAX_PAGES};
 use wz_types::{FuncType, GlobalType, MemType, RefKind, Reference, TableType, Value};
 
-/// What an instance holds (WebAssembly Core Specification, section 4.2.3): seven lists, whose items are
-/// named by number from 0. Types and data segments are borrowed from the module.
+/// What an instance holds (WebAssembly Core Specification, section 4.2.3): seven lists, whose items
+/// are named by number from 0. Types and data segments are borrowed from the module.
 ///
 /// Contracts see it as the record of these lists. Each has fewer than 2^32 items.
 #[derive(Drop)]
@@ -142,10 +142,11 @@ impl<'m, M: Linear> Store<'m, M> {
 impl<'m, M: Linear> Store<'m, M> {
     ghost use Rattle.wz_store.specs.State.{table_type_of, memory_type_of};
 
-    /// What new vectors for this store are made with.
-    #[inline]
-    pub fn allocator(&self) -> Global {
-        self.alloc
+    /// An empty list of bytes, for an instruction that needs a buffer. It takes no memory yet.
+    pub fn new_buffer(&self) -> Vec<u8>
+        ensures { result.items ≡ [] }
+    {
+        Vec::new(self.alloc)
     }
 
     #[inline]
@@ -338,7 +339,8 @@ impl<'m, M: Linear> Store<'m, M> {
     /// Adds so many entries with this content at the end. The table's maximum isn't looked at.
     pub fn extend_table(&mut self, at: u32, by: u32, value: Reference) -> Result<(), AllocError>
         requires found { at < length self.old.tables }
-        requires size { IfSome (slice_get self.old.tables at) (λ t. length t.entries + by < 2 ^ 32) }
+        requires size { IfSome
+            (slice_get self.old.tables at) (λ t. length t.entries + by < 2 ^ 32) }
         ensures extended { OnOk result (self.new ≡ applied (GrowTable at by value) self.old) }
         ensures refused { OnErr result (self.new ≡ self.old) }
     {
@@ -360,8 +362,9 @@ impl<'m, M: Linear> Store<'m, M> {
     pub fn init_table(&mut self, table: u32, segment: u32, to: u32, from: u32, len: u32)
         requires to { HasEntries self.old.tables table to len }
         requires from { HasItems self.old.elements segment from len }
-        ensures { self.new ≡ applied
-            (WriteTable table to (range_of (items_in self.old.elements segment) from len)) self.old }
+        ensures { self.new ≡
+            applied (WriteTable table to
+            (range_of (items_in self.old.elements segment) from len)) self.old }
     {
         let element = &self.elements[segment as usize];
         let items = element.items();

@@ -9,7 +9,7 @@ ghost use Rattle.wz_valid_code.specs.Rules.{Lead};
 ghost use Rattle.wz_valid_code.specs.Blocks.{outer_rule, outer_rules};
 ghost use Rattle.wz_valid_code.specs.Checking.{Followed};
 
-use crate::control::labels_of;
+use crate::control::{block, call_indirect, labels_of};
 use crate::labels::Label;
 use crate::scope::Scope;
 use crate::stack::Stack;
@@ -76,9 +76,7 @@ fn follow(
         // control
         Instr::Nop => Ok(true),
         Instr::Unreachable => control::unreachable(stack),
-        Instr::Block { shape, .. } | Instr::Loop { shape, .. } => control::block(
-            scope, shape, stack,
-        ),
+        Instr::Block { shape, .. } | Instr::Loop { shape, .. } => block(scope, shape, stack),
         Instr::If { shape, .. } => control::if_else(scope, shape, stack),
         Instr::Br(label) => control::br(labels, label, stack),
         Instr::BrIf(label) => control::br_if(labels, label, stack),
@@ -87,9 +85,7 @@ fn follow(
         }
         Instr::Return => control::return_all(scope, stack),
         Instr::Call(function) => control::call(scope, function, stack),
-        Instr::CallIndirect { signature, table } => {
-            control::call_indirect(scope, signature, table, stack)
-        }
+        Instr::CallIndirect { signature, table } => call_indirect(scope, signature, table, stack),
     }
 }
 

@@ -25,7 +25,8 @@ impl<'w> WordsLeft<'w> {
         requires { self.old.at ≤ length self.old.words.now }
         ensures none { IfNone result (words_left self.old ≡ []) }
         ensures some { IfSome result (λ word. word.at ≡ self.old.at) }
-        ensures front { IfSome result (λ w. words_left self.old ≡ w.text.now ∷ words_left self.new) }
+        ensures front { IfSome result
+            (λ w. words_left self.old ≡ w.text.now ∷ words_left self.new) }
         ensures at { OnSome result (self.new.at ≡ self.old.at + 1) }
         ensures stays { IfNone result (self.new.at ≡ self.old.at) }
         ensures within { self.new.at ≤ length self.new.words.now }

@@ -1,5 +1,5 @@
 use Rattle.std.proofs.Common.{◌<◌, arith}
-use Rattle.wz_bytes.proofs.UnsignedLemmas.{scaled, at_most_64}
+use Rattle.wz_bytes.proofs.Widths.{scaled, at_most_64}
 use Rattle.wz_bytes.proofs.unsigned.+front.Goals as goal
 
 pub overflow_mul-result : goal.overflow_mul-result

@@ -1,6 +1,6 @@
 use Rattle.std.proofs.Common.{◌≤◌, ◌^◌, sym, ◌∙◌, arith}
 use Rattle.std.proofs.lemmas.Bool.{lt-ltb, le-leb}
-use Rattle.wz_bytes.proofs.UnsignedLemmas.{at_least_7}
+use Rattle.wz_bytes.proofs.Widths.{at_least_7}
 use Rattle.wz_bytes.proofs.unsigned.fits.Goals as goal
 
 pub returns-then-bits-ge7 : goal.returns-then-bits-ge7

@@ -25,4 +25,4 @@ at_most_64 bits h = pow_mono h
 
 pub ruleset steps = (at_least_7, scaled, at_most_64)
 
-pub ruleset widths = (at_least_7, width_bounds)
+pub ruleset sizes = (at_least_7, width_bounds)
