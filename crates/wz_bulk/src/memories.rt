@@ -1,6 +1,6 @@
 //! Memory instructions on whole ranges (WebAssembly Core Specification, section 4.4.7).
 
-ghost use Rattle.std.specs.Prelude.{◌≡◌, ◌+◌, ◌≤◌, length, IfOk, OnOk, OnErr, IsOk, IsFalse, slice_get, if◌then◌else◌};
+ghost use Rattle.std.specs.Prelude.{◌≡◌, ◌+◌, ◌≤◌, [], length, IfOk, OnOk, OnErr, IsOk, IsFalse, slice_get, if◌then◌else◌};
 ghost use Rattle.wz_types.specs.declared.trap.TrapKind.TheVariants.{MemoryBounds};
 ghost use Rattle.wz_linear.specs.Bytes.{part};
 ghost use Rattle.wz_bulk.specs.declared.bulk.Bulk.TheVariants.{Did, Trap};
