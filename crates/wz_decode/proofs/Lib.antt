@@ -5,3 +5,5 @@ pub mod FrontLemmas
 pub mod DataLemmas
 pub mod ShortLemmas
 pub mod ShortModule
+pub mod GrammarLemmas
+pub mod CauseLaws

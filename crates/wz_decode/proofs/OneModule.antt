@@ -1,4 +1,4 @@
--- Bytes spell at most one module.
+-- Bytes spell at most one module, and are at most one module's sections.
 use Rattle.std.proofs.Common.{◌≡◌, ℕ, List, ◌++◌, length, Option, Some, None, sym, ap, subst, ◌∙◌}
 use Rattle.wz_bytes.specs.Reading.{Form}
 use Rattle.wz_bytes.specs.Forms.{items_at}
@@ -32,6 +32,8 @@ use Rattle.wz_decode_sections.proofs.PayloadLaws.{one_payload}
 use Rattle.wz_decode.specs.Header.{header}
 use Rattle.wz_decode.specs.SectionForm.{IsSection, AreSections, section_at}
 use Rattle.wz_decode.specs.Parts.{HoldsList, HoldsNumber, HasParts}
+use Rattle.wz_decode.specs.Front.{IsWhole}
+use Rattle.wz_decode.specs.Spelling.{Spells}
 use Rattle.wz_decode.specs.Laws.{OneModule, OneFrontOfSections}
 use Rattle.wz_decode.proofs.SectionLaws.{section_exact, one_list_of_sections}
 
@@ -73,11 +75,18 @@ same_parts m n same h k =
     let datas = one_part (λ t x. IsDataSection t x) one_payload.datas _ _ _ h.datas (subst (λ (s : List Section). HoldsList (λ t x. IsDataSection t x) (payload_of 11 s) n.datas) (sym same) k.datas) in
     of_parts _ _ _ _ _ _ _ _ _ _ _ _ _ _ _ _ _ _ _ _ _ _ _ _ _ _ same types imports functions tables memories globals exports start elements data_count bodies datas
 
-behind_header : (a b : List ℕ) → header ++ a ≡ header ++ b → a ≡ b
+pub behind_header : (a b : List ℕ) → header ++ a ≡ header ++ b → a ≡ b
 behind_header a b e = cc
 
-pub one_module : OneModule
-one_module bytes m n h k =
+pub one_whole : (bytes : List ℕ) (m n : Module) → IsWhole bytes m → IsWhole bytes n → m ≡ n
+one_whole bytes m n h k =
     let text : h.text ≡ k.text = behind_header h.text k.text (sym h.whole ∙ k.whole) in
     let same = one_list_of_sections m.sections n.sections h.text h.sections (subst (λ (t : List ℕ). AreSections t n.sections) (sym text) k.sections) in
     same_parts m n same h.parts k.parts
+
+-- a module that bytes spell is all of them
+pub whole_of : (bytes : List ℕ) (m : Module) → Spells bytes m → IsWhole bytes m
+whole_of bytes m h = record { text = h.text; whole = h.whole; sections = h.sections; parts = h.parts }
+
+pub one_module : OneModule
+one_module bytes m n h k = one_whole bytes m n (whole_of bytes m h) (whole_of bytes n k)

@@ -2,8 +2,10 @@
 use Rattle.std.specs.Prelude.{◌≡◌, ℕ, List, length}
 use Rattle.wz_bytes.specs.Reading.{OneFront}
 use Rattle.wz_module.specs.Module.{Module}
+use Rattle.wz_decode.specs.declared.fault.DecodeFault.{DecodeFault}
 use Rattle.wz_decode.specs.SectionForm.{AreSections}
 use Rattle.wz_decode.specs.Spelling.{Spells}
+use Rattle.wz_decode.specs.Causes.{IsCause}
 
 -- bytes spell at most one module
 abbrev pub OneModule : Type 0
@@ -12,3 +14,11 @@ OneModule = (bytes : List ℕ) (m n : Module) → Spells bytes m → Spells byte
 -- bytes have at most one front of so many sections
 abbrev pub OneFrontOfSections : Type 0
 OneFrontOfSections = (n : ℕ) → OneFront (λ text sections. AreSections text sections × (length sections ≡ n))
+
+-- bytes have at most one cause why they spell no module, at one place
+abbrev pub CauseIsOne : Type 0
+CauseIsOne = (bytes : List ℕ) (one other : DecodeFault) → IsCause bytes one → IsCause bytes other → one ≡ other
+
+-- and where they spell one, there is none
+abbrev pub SpelledHasNone : Type 0
+SpelledHasNone = (bytes : List ℕ) (m : Module) (fault : DecodeFault) → Spells bytes m → IsCause bytes fault → ⊥

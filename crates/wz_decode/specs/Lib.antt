@@ -5,4 +5,5 @@ pub mod CountRules
 pub mod Spelling
 pub mod Contents
 pub mod Front
+pub mod Causes
 pub mod Laws

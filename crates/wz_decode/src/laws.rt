@@ -2,6 +2,7 @@
 //! function is a law, and its body is empty.
 
 ghost use Rattle.wz_decode.specs.Laws.{OneModule, OneFrontOfSections};
+ghost use Rattle.wz_decode.specs.Laws.{CauseIsOne, SpelledHasNone};
 
 /// Bytes spell at most one module.
 #[tactic(auto, using(crate::proofs::OneModule::one_module))]
@@ -13,4 +14,11 @@ pub fn at_most_one()
 #[tactic(auto, using(crate::proofs::OneModule::one_front_of_sections))]
 pub fn at_most_one_front()
     ensures { OneFrontOfSections }
+{}
+
+/// Bytes have at most one cause why they spell no module, at one place; and where they spell one,
+/// there is none.
+pub fn one_cause()
+    ensures one { CauseIsOne }
+    ensures spelled { SpelledHasNone }
 {}

@@ -2,14 +2,16 @@
 //!
 //! `specs.Spelling` says which bytes spell which module, as section 5.5.16 of the WebAssembly Core
 //! Specification 2.0 does: the header, sections in order, and the rules between them. `decode`
-//! gives a module that the bytes spell, or the first of three causes why they spell none. A custom
-//! section costs its entry in the list and the look at its name; nothing recurs by a count or by a
-//! depth.
+//! gives the module that the bytes spell, or the one of three causes why they spell none, want of
+//! memory aside. A custom section costs its entry in the list and the look at its name; nothing
+//! recurs by a count or by a depth.
 //!
 //! What to cite:
-//! - the meaning of what was read: `found` of `decode`;
-//! - why nothing was: `not_wasm`, `bad_section`, `bad_counts`;
-//! - that bytes spell one module at most, and have at most one front of so many sections: `laws`.
+//! - the meaning of what was read: `found` of `decode`; that a spelled module is: `reads`;
+//! - why nothing was: `not_wasm`, `bad_section`, `bad_counts`; and that each cause gives its answer:
+//!   `refuses_not_wasm`, `refuses_bad_section`, `refuses_bad_counts`;
+//! - that bytes spell one module at most, and have at most one front of so many sections, and that
+//!   the causes exclude each other and a spelled module: `laws`.
 #![tactic(auto)]
 
 mod code;

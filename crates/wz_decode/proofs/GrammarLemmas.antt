@@ -1,0 +1,96 @@
+-- Where sections hold a module's parts, the contents of each are in the grammar of its id.
+use Rattle.std.proofs.Common.{◌≡◌, ℕ, ◌<◌, List, [], ◌∷◌, Option, Some, None, refl, sym, ap, subst, ◌∙◌, arith, inl, inr}
+use Rattle.std.specs.Prelude.{◌≢◌, ◌==◌}
+use Rattle.std.specs.List.{All}
+use Rattle.std.proofs.lemmas.Bool.{cases_Bool, cases_eq, cases_lt, eqb-true, eq-eqb, ne_eqb, lt-ltb, le-ltb}
+use Rattle.std.proofs.lemmas.List.Elements.{All-head, All-tail, All-nil, All-cons}
+use Rattle.wz_bytes.specs.Reading.{Form}
+use Rattle.wz_module.specs.Sections.{Section, section_rank, ranks_of, Rises, payload_of}
+use Rattle.wz_module.specs.Module.{Module}
+use Rattle.wz_decode_sections.specs.TypeSection.{IsTypeSection}
+use Rattle.wz_decode_sections.specs.ImportSection.{IsImportSection}
+use Rattle.wz_decode_sections.specs.FunctionSection.{IsFunctionSection}
+use Rattle.wz_decode_sections.specs.TableSection.{IsTableSection}
+use Rattle.wz_decode_sections.specs.MemorySection.{IsMemorySection}
+use Rattle.wz_decode_sections.specs.GlobalSection.{IsGlobalSection}
+use Rattle.wz_decode_sections.specs.ExportSection.{IsExportSection}
+use Rattle.wz_decode_sections.specs.StartSection.{IsStartSection}
+use Rattle.wz_decode_sections.specs.ElementSection.{IsElementSection}
+use Rattle.wz_decode_sections.specs.CodeSection.{IsCodeSection}
+use Rattle.wz_decode_sections.specs.DataSection.{IsDataSection}
+use Rattle.wz_decode_sections.specs.DataCountSection.{IsDataCountSection}
+use Rattle.wz_decode.specs.Parts.{HoldsList, HoldsNumber, IsNamedIfCustom, HasParts}
+use Rattle.wz_decode.specs.Contents.{IsPayloadOf, kind_of_id, IsInGrammar}
+
+-- ---- the section with an id
+
+-- what the payload with this id is in the grammar of, if there is one
+abbrev HeldAt : List Section → ℕ → Type 0
+HeldAt sections id = (payload : List ℕ) → payload_of id sections ≡ Some payload → IsPayloadOf (kind_of_id id) payload
+
+list_held : {X : Type 0} (S : Form (List X)) (o : Option (List ℕ)) (xs : List X) → HoldsList S o xs → (payload : List ℕ) → o ≡ Some payload → (ys : List X) × S payload ys
+list_held S o xs h payload e = (xs, subst (λ (o : Option (List ℕ)). HoldsList S o xs) e h)
+
+number_held : (S : Form ℕ) (o : Option (List ℕ)) (n : Option ℕ) → HoldsNumber S o n → (payload : List ℕ) → o ≡ Some payload → (k : ℕ) × S payload k
+number_held S o None h payload e = absurd (subst (λ (o : Option (List ℕ)). HoldsNumber S o None) e h)
+number_held S o (Some n) h payload e = (n, subst (λ (o : Option (List ℕ)). HoldsNumber S o (Some n)) e h)
+
+or_next : (P : ℕ → Type 0) (id n : ℕ) → P n → (id ≢ n → P id) → P id
+or_next P id n here more = elim (cases_eq id n) [ inl is ↦ subst P (sym is) here | inr not ↦ more not ]
+
+-- an id that isn't custom and has a place in the order
+held_at : (m : Module) → HasParts m → (id : ℕ) → 0 < section_rank id → HeldAt m.sections id
+held_at m h id placed =
+    let P = λ (id : ℕ). HeldAt m.sections id in
+    or_next P id 1 (list_held (λ t x. IsTypeSection t x) _ _ h.types) (λ n1.
+    or_next P id 2 (list_held (λ t x. IsImportSection t x) _ _ h.imports) (λ n2.
+    or_next P id 3 (list_held (λ t x. IsFunctionSection t x) _ _ h.functions) (λ n3.
+    or_next P id 4 (list_held (λ t x. IsTableSection t x) _ _ h.tables) (λ n4.
+    or_next P id 5 (list_held (λ t x. IsMemorySection t x) _ _ h.memories) (λ n5.
+    or_next P id 6 (list_held (λ t x. IsGlobalSection t x) _ _ h.globals) (λ n6.
+    or_next P id 7 (list_held (λ t x. IsExportSection t x) _ _ h.exports) (λ n7.
+    or_next P id 8 (number_held (λ t n. IsStartSection t n) _ _ h.start) (λ n8.
+    or_next P id 9 (list_held (λ t x. IsElementSection t x) _ _ h.elements) (λ n9.
+    or_next P id 10 (list_held (λ t x. IsCodeSection t x) _ _ h.bodies) (λ n10.
+    or_next P id 11 (list_held (λ t x. IsDataSection t x) _ _ h.datas) (λ n11.
+    or_next P id 12 (number_held (λ t n. IsDataCountSection t n) _ _ h.data_count) (λ n12.
+    let ten = ne_eqb id 10 n10 in
+    let eleven = ne_eqb id 11 n11 in
+    let twelve = ne_eqb id 12 n12 in
+    elim (cases_lt id 10) [
+      | inl low ↦
+          let rank : section_rank id ≡ id = (let less = lt-ltb id 10 low in rw (ten, eleven, twelve, less) refl) in
+          absurd (omega (arith, placed, rank, low, n1, n2, n3, n4, n5, n6, n7, n8, n9))
+      | inr high ↦
+          let rank : section_rank id ≡ 0 = (let less = le-ltb id 10 high in rw (ten, eleven, twelve, less) refl) in
+          absurd (omega (arith, placed, rank))
+    ]
+    ))))))))))))
+
+-- ---- all sections
+
+-- what holds of ids whose place is above the first one's holds of them in the others
+others_held : (s : Section) (sections : List Section) (low : ℕ) → ((id : ℕ) → low < section_rank id → HeldAt (s ∷ sections) id) → ((id : ℕ) → low < section_rank id → id ≢ s.id → HeldAt sections id)
+others_held s sections low held id above other payload e =
+    let not = ne_eqb s.id id (λ is. other (sym is)) in
+    held id above payload (rw not e)
+
+all_in_order : (low : ℕ) (sections : List Section) → Rises low (ranks_of sections) → All IsNamedIfCustom sections → ((id : ℕ) → low < section_rank id → HeldAt sections id) → All IsInGrammar sections
+all_in_order low [] rise customs held = All-nil IsInGrammar
+all_in_order low (s ∷ sections) rise customs held = elim (cases_Bool (s.id == 0)) [
+  | inl custom ↦
+      let is = eqb-true s.id 0 custom in
+      let named = subst (λ (k : ℕ). IsPayloadOf (kind_of_id k) s.payload) (sym is) (All-head IsNamedIfCustom s sections customs is) in
+      let none : (id : ℕ) → low < section_rank id → id ≢ s.id = (λ id above same. let rank : section_rank id ≡ 0 = ap section_rank (same ∙ is) in omega (arith, above, rank)) in
+      let rise_on : Rises low (ranks_of sections) = rw custom at rise in
+      All-cons IsInGrammar s sections named (all_in_order low sections rise_on (All-tail IsNamedIfCustom s sections customs) (λ id above. others_held s sections low held id above (none id above)))
+  | inr own ↦
+      let r : Rises low (section_rank s.id ∷ ranks_of sections) = rw own at rise in
+      let here = eq-eqb s.id s.id refl in
+      let first : IsInGrammar s = held s.id r.0 s.payload (rw here refl) in
+      let on : (id : ℕ) → section_rank s.id < section_rank id → HeldAt sections id = (λ id above. others_held s sections low held id (omega (arith, above, r.0)) (λ same. let rank = ap section_rank same in omega (arith, above, rank))) in
+      All-cons IsInGrammar s sections first (all_in_order (section_rank s.id) sections r.1 (All-tail IsNamedIfCustom s sections customs) on)
+]
+
+pub all_in_grammar : (m : Module) → HasParts m → All IsInGrammar m.sections
+all_in_grammar m h = all_in_order 0 m.sections h.order h.customs (λ id placed. held_at m h id placed)
