@@ -39,8 +39,8 @@ nil_front [] b e = refl
 nil_front (x ∷ a) b e = absurd cc
 
 -- items in front of bytes are the first of more items, or of those that are all of the bytes
-begins : {X : Type 0} (S : Form X) (p : Reading X) → IsExact S p → ((x : X) → S [] x → ⊥) → (xs ys : List X) (text long rest behind : List ℕ) → AreItems S text xs → AreItems S long ys → (length xs ≤ length ys) ⊎ (behind ≡ [])
-    → text ++ rest ≡ long ++ behind → Begins S xs ys rest behind
+begins : {X : Type 0} (S : Form X) (p : Reading X) → IsExact S p → ((x : X) → S [] x → ⊥) → (xs ys : List X) (text long rest behind : List ℕ)
+    → AreItems S text xs → AreItems S long ys → (length xs ≤ length ys) ⊎ (behind ≡ []) → text ++ rest ≡ long ++ behind → Begins S xs ys rest behind
 begins S p exact some [] ys text long rest behind h k more e =
     let parts : rest ≡ long ++ behind = ap (λ (t : List ℕ). t ++ rest) (sym h) ∙ e in
     record { others = ys; between = long; are = refl; parts = parts; spelled = k }
@@ -73,8 +73,9 @@ ranks_front low (s ∷ xs) ys r = elim (cases_Bool (s.id == 0)) [
 ]
 
 -- sections in front of bytes, and one more of those that stand there
-one_more : (bytes text rest behind between : List ℕ) (n : ℕ) (xs ys others : List Section) → bytes ≡ header ++ (text ++ rest) → length xs ≡ n → AreSections text xs → ys ≡ xs ++ others → rest ≡ between ++ behind → AreSections between others
-    → rest ≢ [] → (n < length ys) ⊎ (behind ≡ []) → Rises 0 (ranks_of ys) → All IsInGrammar ys → (after : List ℕ) × IsFrontOf (n + 1) bytes after
+one_more : (bytes text rest behind between : List ℕ) (n : ℕ) (xs ys others : List Section) → bytes ≡ header ++ (text ++ rest) → length xs ≡ n → AreSections text xs
+    → ys ≡ xs ++ others → rest ≡ between ++ behind → AreSections between others → rest ≢ [] → (n < length ys) ⊎ (behind ≡ [])
+    → Rises 0 (ranks_of ys) → All IsInGrammar ys → (after : List ℕ) × IsFrontOf (n + 1) bytes after
 one_more bytes text rest behind between n xs ys [] parts many spelled are split empty some (inl longer) order contents =
     let same : length ys ≡ length xs + 0 = ap (λ (l : List Section). length l) are ∙ length-append xs [] in
     absurd (omega (arith, same, many, longer))
@@ -98,7 +99,8 @@ one_more bytes text rest behind between n xs ys (s ∷ others) parts many spelle
     )
 
 -- where a section is bad, no more sections are in order and in the grammar, and none are all of the bytes
-none_longer : (bytes long behind : List ℕ) (at : ℕ) (ys : List Section) → IsBadSection bytes at → bytes ≡ header ++ (long ++ behind) → AreSections long ys → (at < length ys) ⊎ (behind ≡ []) → Rises 0 (ranks_of ys) → All IsInGrammar ys → ⊥
+none_longer : (bytes long behind : List ℕ) (at : ℕ) (ys : List Section) → IsBadSection bytes at → bytes ≡ header ++ (long ++ behind) → AreSections long ys
+    → (at < length ys) ⊎ (behind ≡ []) → Rises 0 (ranks_of ys) → All IsInGrammar ys → ⊥
 none_longer bytes long behind at ys bad parts spelled more order contents =
     let f = bad.front in
     let same : f.text ++ bad.rest ≡ long ++ behind = behind_header (f.text ++ bad.rest) (long ++ behind) (sym f.parts ∙ parts) in
@@ -151,23 +153,36 @@ spelled_has_none bytes m NoMemory h k = k
 
 -- ---- an answer by its cause is the only one
 
-same_error : {M : Type 0} (one other : DecodeFault) (r : Result M DecodeFault) → r ≡ Err one → one ≡ other → r ≡ Err other
+-- a module is one that the bytes spell, and an error comes by its cause
+pub record ByCause {M : Type 0} (meaning : M → Module) (bytes : List ℕ) (r : Result M DecodeFault) : Type 0 where
+  pub found : IfOk r (λ m. Spells bytes (meaning m))
+  pub not_wasm : IsErrOf r NotWasm → LacksHeader bytes
+  pub bad_section : (at : ℕ) → IsErrOf r (BadSection at) → IsBadSection bytes at
+  pub bad_counts : IsErrOf r BadCounts → HasBadCounts bytes
+
+cause_of : {M : Type 0} (meaning : M → Module) (bytes : List ℕ) (r : Result M DecodeFault) → ByCause meaning bytes r
+    → (fault : DecodeFault) → IsErrOf r fault → IsCause bytes fault ⊎ (fault ≡ NoMemory)
+cause_of meaning bytes r h NotWasm e = inl (h.not_wasm e)
+cause_of meaning bytes r h (BadSection at) e = inl (h.bad_section at e)
+cause_of meaning bytes r h BadCounts e = inl (h.bad_counts e)
+cause_of meaning bytes r h NoMemory e = inr refl
+
+same_error : {M : Type 0} (one other : DecodeFault) (r : Result M DecodeFault) → IsErrOf r one → one ≡ other → IsErrOf r other
 same_error one other r is same = cc
 
 -- each cause gives its answer
-pub refuses : {M : Type 0} (meaning : M → Module) (bytes : List ℕ) (r : Result M DecodeFault) → IfOk r (λ m. Spells bytes (meaning m)) → (IsErrOf r NotWasm → LacksHeader bytes)
-    → ((at : ℕ) → IsErrOf r (BadSection at) → IsBadSection bytes at) → (IsErrOf r BadCounts → HasBadCounts bytes) → (fault : DecodeFault) → IsCause bytes fault → IsErrOf r fault ⊎ IsErrOf r NoMemory
-refuses meaning bytes (Ok m) found not_wasm bad_section bad_counts fault is = absurd (spelled_has_none bytes (meaning m) fault found is)
-refuses meaning bytes (Err NotWasm) found not_wasm bad_section bad_counts fault is = inl (same_error _ fault _ refl (cause_is_one bytes NotWasm fault (not_wasm refl) is))
-refuses meaning bytes (Err (BadSection at)) found not_wasm bad_section bad_counts fault is = inl (same_error _ fault _ refl (cause_is_one bytes (BadSection at) fault (bad_section at refl) is))
-refuses meaning bytes (Err BadCounts) found not_wasm bad_section bad_counts fault is = inl (same_error _ fault _ refl (cause_is_one bytes BadCounts fault (bad_counts refl) is))
-refuses meaning bytes (Err NoMemory) found not_wasm bad_section bad_counts fault is = inr refl
+pub refuses : {M : Type 0} (meaning : M → Module) (bytes : List ℕ) (r : Result M DecodeFault) → ByCause meaning bytes r
+    → (fault : DecodeFault) → IsCause bytes fault → IsErrOf r fault ⊎ IsErrOf r NoMemory
+refuses meaning bytes (Ok m) h fault is = absurd (spelled_has_none bytes (meaning m) fault h.found is)
+refuses meaning bytes (Err own) h fault is = elim (cause_of meaning bytes (Err own) h own refl) [
+  | inl cause ↦ inl (same_error own fault (Err own) refl (cause_is_one bytes own fault cause is))
+  | inr none ↦ inr (same_error own NoMemory (Err own) refl none)
+]
 
 -- a module that is spelled is read
-pub reads : {M : Type 0} (bytes : List ℕ) (r : Result M DecodeFault) → (IsErrOf r NotWasm → LacksHeader bytes) → ((at : ℕ) → IsErrOf r (BadSection at) → IsBadSection bytes at) → (IsErrOf r BadCounts → HasBadCounts bytes)
-    → (m : Module) → Spells bytes m → IsOkUnless r NoMemory
-reads bytes (Ok n) not_wasm bad_section bad_counts m spelled = tt
-reads bytes (Err NotWasm) not_wasm bad_section bad_counts m spelled = absurd (spelled_has_none bytes m NotWasm spelled (not_wasm refl))
-reads bytes (Err (BadSection at)) not_wasm bad_section bad_counts m spelled = absurd (spelled_has_none bytes m (BadSection at) spelled (bad_section at refl))
-reads bytes (Err BadCounts) not_wasm bad_section bad_counts m spelled = absurd (spelled_has_none bytes m BadCounts spelled (bad_counts refl))
-reads bytes (Err NoMemory) not_wasm bad_section bad_counts m spelled = refl
+pub reads : {M : Type 0} (meaning : M → Module) (bytes : List ℕ) (r : Result M DecodeFault) → ByCause meaning bytes r → (m : Module) → Spells bytes m → IsOkUnless r NoMemory
+reads meaning bytes (Ok n) h m spelled = tt
+reads meaning bytes (Err own) h m spelled = elim (cause_of meaning bytes (Err own) h own refl) [
+  | inl cause ↦ absurd (spelled_has_none bytes m own spelled cause)
+  | inr none ↦ none
+]

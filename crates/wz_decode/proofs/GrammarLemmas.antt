@@ -69,27 +69,32 @@ held_at m h id placed =
 
 -- ---- all sections
 
--- what holds of ids whose place is above the first one's holds of them in the others
-others_held : (s : Section) (sections : List Section) (low : ℕ) → ((id : ℕ) → low < section_rank id → HeldAt (s ∷ sections) id) → ((id : ℕ) → low < section_rank id → id ≢ s.id → HeldAt sections id)
-others_held s sections low held id above other payload e =
+-- the same of each id with a place above this one
+abbrev HeldAbove : List Section → ℕ → Type 0
+HeldAbove sections low = (id : ℕ) → low < section_rank id → HeldAt sections id
+
+other_held : (s : Section) (sections : List Section) (low : ℕ) → HeldAbove (s ∷ sections) low → (id : ℕ) → low < section_rank id → id ≢ s.id → HeldAt sections id
+other_held s sections low held id above other payload e =
     let not = ne_eqb s.id id (λ is. other (sym is)) in
     held id above payload (rw not e)
 
-all_in_order : (low : ℕ) (sections : List Section) → Rises low (ranks_of sections) → All IsNamedIfCustom sections → ((id : ℕ) → low < section_rank id → HeldAt sections id) → All IsInGrammar sections
+all_in_order : (low : ℕ) (sections : List Section) → Rises low (ranks_of sections) → All IsNamedIfCustom sections → HeldAbove sections low → All IsInGrammar sections
 all_in_order low [] rise customs held = All-nil IsInGrammar
 all_in_order low (s ∷ sections) rise customs held = elim (cases_Bool (s.id == 0)) [
   | inl custom ↦
       let is = eqb-true s.id 0 custom in
       let named = subst (λ (k : ℕ). IsPayloadOf (kind_of_id k) s.payload) (sym is) (All-head IsNamedIfCustom s sections customs is) in
       let none : (id : ℕ) → low < section_rank id → id ≢ s.id = (λ id above same. let rank : section_rank id ≡ 0 = ap section_rank (same ∙ is) in omega (arith, above, rank)) in
+      let held_on : HeldAbove sections low = (λ id above. other_held s sections low held id above (none id above)) in
       let rise_on : Rises low (ranks_of sections) = rw custom at rise in
-      All-cons IsInGrammar s sections named (all_in_order low sections rise_on (All-tail IsNamedIfCustom s sections customs) (λ id above. others_held s sections low held id above (none id above)))
+      All-cons IsInGrammar s sections named (all_in_order low sections rise_on (All-tail IsNamedIfCustom s sections customs) held_on)
   | inr own ↦
       let r : Rises low (section_rank s.id ∷ ranks_of sections) = rw own at rise in
       let here = eq-eqb s.id s.id refl in
       let first : IsInGrammar s = held s.id r.0 s.payload (rw here refl) in
-      let on : (id : ℕ) → section_rank s.id < section_rank id → HeldAt sections id = (λ id above. others_held s sections low held id (omega (arith, above, r.0)) (λ same. let rank = ap section_rank same in omega (arith, above, rank))) in
-      All-cons IsInGrammar s sections first (all_in_order (section_rank s.id) sections r.1 (All-tail IsNamedIfCustom s sections customs) on)
+      let none : (id : ℕ) → section_rank s.id < section_rank id → id ≢ s.id = (λ id above same. let rank = ap section_rank same in omega (arith, above, rank)) in
+      let held_on : HeldAbove sections (section_rank s.id) = (λ id above. other_held s sections low held id (omega (arith, above, r.0)) (none id above)) in
+      All-cons IsInGrammar s sections first (all_in_order (section_rank s.id) sections r.1 (All-tail IsNamedIfCustom s sections customs) held_on)
 ]
 
 pub all_in_grammar : (m : Module) → HasParts m → All IsInGrammar m.sections

@@ -46,12 +46,14 @@ pub fn decode(alloc: Global, bytes: &[u8]) -> Result<Module<'_>, DecodeFault>
     ensures found { IfOk result (λ m. Spells bytes.now (module_of m)) }
     ensures reads { (m : PlainModule) → Spells bytes.now m → IsOkUnless result NoMemory }
     ensures not_wasm { IsErrOf result NotWasm → LacksHeader bytes.now }
-    ensures refuses_not_wasm { LacksHeader bytes.now → IsErrOf result NotWasm ⊎ IsErrOf result NoMemory }
+    ensures refuses_not_wasm { LacksHeader bytes.now
+        → IsErrOf result NotWasm ⊎ IsErrOf result NoMemory }
     ensures bad_section { (at : ℕ) → IsErrOf result (BadSection at) → IsBadSection bytes.now at }
     ensures refuses_bad_section { (at : ℕ) → IsBadSection bytes.now at
         → IsErrOf result (BadSection at) ⊎ IsErrOf result NoMemory }
     ensures bad_counts { IsErrOf result BadCounts → HasBadCounts bytes.now }
-    ensures refuses_bad_counts { HasBadCounts bytes.now → IsErrOf result BadCounts ⊎ IsErrOf result NoMemory }
+    ensures refuses_bad_counts { HasBadCounts bytes.now
+        → IsErrOf result BadCounts ⊎ IsErrOf result NoMemory }
 {
     // Nothing more is done: the causes exclude each other and a spelled module, so each gives its
     // own answer.
