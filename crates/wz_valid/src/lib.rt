@@ -7,13 +7,19 @@
 //! validity stand in `limits`, `item_rules`, `declared` and `spaces`, which nothing calls yet.
 #![tactic(auto)]
 
+mod checker;
 mod declared;
 mod faults;
 mod item_rules;
 pub mod laws;
 mod limits;
+mod named_rules;
+mod names;
 mod profile_rules;
 mod spaces;
+mod typed_rules;
+mod validity;
 
 pub use faults::{OutOfProfile, Part, ValidFault};
 pub use profile_rules::profile;
+pub use validity::validate;
