@@ -100,7 +100,8 @@ first_items (x ∷ xs) ys (suc i) less = first_items xs ys i (omega (arith, less
 first_globals : (imported own : List GlobalType) (index : ℕ) → (if nat_lt index (length imported) then if_constant (slice_get (imported ++ own) index) else None)
     ≡ (if nat_lt index (length imported) then if_constant (slice_get imported index) else None)
 first_globals imported own index = by (nat_lt index (length imported)) refl where
-  by : (b : Bool) → nat_lt index (length imported) ≡ b → (if b then if_constant (slice_get (imported ++ own) index) else None) ≡ (if b then if_constant (slice_get imported index) else None)
+  by : (b : Bool) → nat_lt index (length imported) ≡ b
+      → (if b then if_constant (slice_get (imported ++ own) index) else None) ≡ (if b then if_constant (slice_get imported index) else None)
   by true less = ap (λ (o : Option GlobalType). if_constant o) (first_items imported own index (ltb-true index (length imported) less))
   by false past = refl
 
@@ -186,7 +187,8 @@ pub tells_false : (P : Type 0) (b : Bool) → b ≡ false → MatchBool b P (P �
 tells_false P true is h = absurd cc
 tells_false P false is h = h
 
-pub constant_at : (context : TypingContext) (code other : Code) (type wanted : ValType) → code ≡ other → type ≡ wanted → IsConstant context code type → IsConstant context other wanted
+pub constant_at : (context : TypingContext) (code other : Code) (type wanted : ValType) → code ≡ other → type ≡ wanted → IsConstant context code type
+    → IsConstant context other wanted
 constant_at context code other type wanted same is t =
     subst (λ (v : ValType). IsConstant context other v) is (subst (λ (x : Code). IsConstant context x type) same t)
 

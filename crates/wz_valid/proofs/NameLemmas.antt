@@ -72,7 +72,8 @@ name_is_new : (m : Module) (i : ℕ) (e : Export) → slice_get m.exports i ≡ 
 name_is_new m i e here none =
     subst (λ (o : Option Export). IsSomeAnd o (λ x. All (λ earlier. earlier.name ≡ x.name → ⊥) (take i m.exports))) (sym here) (none_same (take i m.exports) e.name none)
 
-name_is_old : (m : Module) (i : ℕ) (e : Export) → slice_get m.exports i ≡ Some e → list_any (λ other. pointwise nat_eq other.name e.name) (take i m.exports) ≡ true → IsNameNew m i → ⊥
+name_is_old : (m : Module) (i : ℕ) (e : Export) → slice_get m.exports i ≡ Some e
+    → list_any (λ other. pointwise nat_eq other.name e.name) (take i m.exports) ≡ true → IsNameNew m i → ⊥
 name_is_old m i e here some new =
     some_same (take i m.exports) e.name some
     (subst (λ (o : Option Export). IsSomeAnd o (λ x. All (λ earlier. earlier.name ≡ x.name → ⊥) (take i m.exports))) here new)

@@ -59,7 +59,8 @@ export_there [] P index h = absurd h
 export_there (e ∷ exports) P zero h = omega arith
 export_there (e ∷ exports) P (suc index) h = let less = export_there exports P index h in omega (arith, less)
 
-name_of_item : (m : Module) (index : ℕ) (o : Option Export) → IsSomeAnd o (λ e. IsExportOk m index e) → IsSomeAnd o (λ e. All (λ earlier. earlier.name ≡ e.name → ⊥) (take index m.exports))
+name_of_item : (m : Module) (index : ℕ) (o : Option Export) → IsSomeAnd o (λ e. IsExportOk m index e)
+    → IsSomeAnd o (λ e. All (λ earlier. earlier.name ≡ e.name → ⊥) (take index m.exports))
 name_of_item m index None h = h
 name_of_item m index (Some e) h = h.1
 

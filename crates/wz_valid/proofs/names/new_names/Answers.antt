@@ -22,8 +22,8 @@ loop-index-preserved c =
       seen = next_seen m exports c.loop-index.index none c.exports-exports.ensures c.loop-index-test.true c.loop-index.names seen c.in_ok-insert.field-0 c.insert.new.self
           c.in_ok-insert.ensures.updates.0;
       new = below_more (λ k. IsNameNew m k) c.loop-index.index c.loop-index.invariant.new
-          (next_is_new m exports c.loop-index.index none c.exports-exports.ensures c.loop-index-test.true c.loop-index.names seen c.in_ok-insert.field-0 c.in_ok-insert.ensures.added
-          c.if-not-branch.false);
+          (next_is_new m exports c.loop-index.index none c.exports-exports.ensures c.loop-index-test.true c.loop-index.names seen
+          c.in_ok-insert.field-0 c.in_ok-insert.ensures.added c.if-not-branch.false);
     }
 
 pub returns-then-not-branch : goal.returns-then-not-branch

@@ -21,7 +21,8 @@ loop-body-preserved c =
     let same = c.body-item.is ∙ get_or_default bodies i c.body-item.result none c.loop-body-test.true in
     let found = tells_true (IsConstant all (tree_of c.body-item.result 0) c.from.result) c.in_ok-is_constant.field-0 c.if-not-branch.false c.in_ok-is_constant.ensures in
     all_next (λ init. IsConstant all init (type_of_kind c.args.kind)) (λ body. tree_of body 0) bodies i none c.loop-body-test.true c.loop-body.invariant
-    (constant_at all (tree_of c.body-item.result 0) (tree_of (get_or bodies i none) 0) c.from.result (type_of_kind c.args.kind) (ap (λ (b : BodyParts). tree_of b 0) same) c.from.ensures found)
+    (constant_at all (tree_of c.body-item.result 0) (tree_of (get_or bodies i none) 0) c.from.result (type_of_kind c.args.kind)
+    (ap (λ (b : BodyParts). tree_of b 0) same) c.from.ensures found)
 
 pub returns-then-not-branch : goal.returns-then-not-branch
 returns-then-not-branch c =

@@ -18,4 +18,5 @@ returns-else-not-has_memory c =
     let P : data_mode.DataMode → Type 0 = λ mode. IfOk r (λ ok. MatchBool ok (IsDataModeOk m (data_mode_of mode)) (IsDataModeOk m (data_mode_of mode) → ⊥)) in
     let there : c.in-Active.memory < (context_of m).memories =
     omega (arith, ltb-true c.in-Active.memory c.args.checker.now.context.memories (sym c.if-not-has_memory.ensures), c.requires.says.memories) in
-    subst P (sym c.in-Active.is) (both_tell (c.in-Active.memory < (context_of m).memories) (IsConstant (context_of m) (tree_of c.in-Active.offset 0) I32) r there c.is_constant.ensures)
+    subst P (sym c.in-Active.is)
+    (both_tell (c.in-Active.memory < (context_of m).memories) (IsConstant (context_of m) (tree_of c.in-Active.offset 0) I32) r there c.is_constant.ensures)

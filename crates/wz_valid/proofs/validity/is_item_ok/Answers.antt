@@ -22,5 +22,5 @@ is_code_ok-requires-clause-types c =
 
 pub is_data_ok-requires-clause-types : goal.is_data_ok-requires-clause-types
 is_data_ok-requires-clause-types c =
-    types_before (module_of c.args.checker.now.«module».now) c.args.part c.args.index (subst (λ (p : Part). 1 < part_rank p) (sym c.in-DataSegment.is) (omega arith)) c.requires.before
-    c.args.checker.now.context c.requires.says
+    types_before (module_of c.args.checker.now.«module».now) c.args.part c.args.index (subst (λ (p : Part). 1 < part_rank p) (sym c.in-DataSegment.is) (omega arith))
+    c.requires.before c.args.checker.now.context c.requires.says
