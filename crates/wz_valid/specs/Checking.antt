@@ -8,11 +8,9 @@ use Rattle.wz_module.specs.Module.{Module}
 use Rattle.wz_valid_code.specs.Typing.{IsConstant}
 use Rattle.wz_valid_code.specs.Context.{TypingContext}
 use Rattle.wz_valid.specs.declared.faults.Part.{Part}
-use Rattle.wz_valid.specs.declared.faults.ValidFault.{ValidFault}
-use Rattle.wz_valid.specs.declared.faults.ValidFault.TheVariants.{Invalid, NoMemory}
 use Rattle.wz_valid.specs.DeclaredFunctions.{HaveSameNumbers}
 use Rattle.wz_valid.specs.Contexts.{context_of}
-use Rattle.wz_valid.specs.Validity.{IsItemOk, IsPartOk, part_rank, part_length, StandsBefore, IsFirstInvalid}
+use Rattle.wz_valid.specs.Validity.{IsItemOk, IsPartOk, part_rank, part_length, StandsBefore}
 
 -- A context says the same as another: that is, the functions of which references may be made are the same, in whatever order.
 pub record SaysSame (context other : TypingContext) : Type 0 where
@@ -54,8 +52,3 @@ AreItemsBeforeOk m part index = (one : Part) (other : ℕ) → other < part_leng
 -- every item of the parts before this place in their order is ok
 abbrev pub ArePartsBeforeOk : Module → ℕ → Type 0
 ArePartsBeforeOk m rank = (one : Part) → part_rank one < rank → IsPartOk m one
-
--- why a module isn't accepted: the first item that isn't ok. For want of memory there is no cause in the module.
-abbrev pub IsRefused : Module → ValidFault → Type 0
-IsRefused m (Invalid part index) = IsFirstInvalid m part index
-IsRefused m NoMemory = Unit {0}

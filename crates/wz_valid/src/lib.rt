@@ -17,6 +17,8 @@ mod named_rules;
 mod names;
 mod profile_rules;
 mod spaces;
+#[cfg(test)]
+mod tests;
 mod typed_rules;
 mod validity;
 

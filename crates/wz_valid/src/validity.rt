@@ -4,8 +4,8 @@ ghost use Rattle.std.specs.Prelude.{◌≡◌, ◌<◌, ◌^◌, length, OnOk, I
 ghost use Rattle.wz_valid_code.specs.Context.{HasTypes};
 ghost use Rattle.wz_module.specs.Meaning.{module_of};
 ghost use Rattle.wz_valid.specs.Indices.{all_memories};
-ghost use Rattle.wz_valid.specs.Validity.{IsValid, IsPartOk, part_length, part_rank};
-ghost use Rattle.wz_valid.specs.Checking.{IsContextOf, AreNamesNew, TellsItem, IsRefused};
+ghost use Rattle.wz_valid.specs.Validity.{IsValid, IsPartOk, IsRefused, part_length, part_rank};
+ghost use Rattle.wz_valid.specs.Checking.{IsContextOf, AreNamesNew, TellsItem};
 ghost use Rattle.wz_valid.specs.Checking.{AreItemsBeforeOk, ArePartsBeforeOk};
 
 use crate::checker::Checker;
