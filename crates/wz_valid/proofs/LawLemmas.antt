@@ -237,7 +237,7 @@ same_rank p q e =
     let found : Some p ≡ Some q = sym (at_rank p) ∙ ap (λ (n : ℕ). slice_get parts_in_order n) e ∙ at_rank q in
     cc found
 
-three_ways : (a b : ℕ) → (a < b) ⊎ ((a ≡ b) ⊎ (b < a))
+pub three_ways : (a b : ℕ) → (a < b) ⊎ ((a ≡ b) ⊎ (b < a))
 three_ways zero zero = inr (inl refl)
 three_ways zero (suc b) = inl (omega arith)
 three_ways (suc a) zero = inr (inr (omega arith))

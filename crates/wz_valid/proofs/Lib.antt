@@ -1,6 +1,9 @@
+mod CheckLemmas
 mod ContextLemmas
 mod DeclaredLemmas
 mod LawLemmas
 mod ListLemmas
+mod NameLemmas
+mod PartLemmas
 mod ProfileLemmas
 mod TreeLemmas

@@ -1,11 +1,13 @@
 -- Lists, looked at from their beginning.
-use Rattle.std.proofs.Common.{◌≡◌, ℕ, zero, suc, ◌+◌, ◌-◌, ◌<◌, ◌≤◌, List, [], ◌∷◌, ◌++◌, Some, map, take, get_or, length, refl, sym, ap, subst, ◌∙◌, slice_get, All, arith}
+use Rattle.std.proofs.Common.{◌≡◌, ℕ, zero, suc, ◌+◌, ◌-◌, ◌<◌, ◌≤◌, List, [], ◌∷◌, ◌++◌, Option, Some, None, IsSomeAnd, map, take, get_or, length}
+use Rattle.std.proofs.Common.{refl, sym, ap, subst, ◌∙◌, slice_get, All, arith}
 use Rattle.std.proofs.Common.{append-nil}
 use Rattle.std.specs.List.{flat_map}
 use Rattle.std.proofs.lemmas.List.{take_more, take_all}
-use Rattle.std.proofs.lemmas.Option.{slice_get_within, get_or_from_slice_get}
+use Rattle.std.specs.Option.{option_map}
+use Rattle.std.proofs.lemmas.Option.{slice_get_within, get_or_from_slice_get, slice_get-map, slice_get_past, slice_get_read}
 use Rattle.std.proofs.lemmas.List.Concat.{flat_map-append}
-use Rattle.std.proofs.lemmas.List.Elements.{All-push}
+use Rattle.std.proofs.lemmas.List.Elements.{All-push, All-head, All-tail}
 use Rattle.std.proofs.Math.ListN.{get_or-map, length-map}
 
 -- the items up to the next one, seen through a map
@@ -62,3 +64,28 @@ flat_next {Y = Y} {Z = Z} F f xs i d less =
 pub map_twice : {X Y Z : Type 0} (g : Y → Z) (f : X → Y) (xs : List X) → map (λ x. g (f x)) xs ≡ map g (map f xs)
 map_twice g f [] = refl
 map_twice {Z = Z} g f (x ∷ xs) = ap (λ (zs : List Z). g (f x) ∷ zs) (map_twice g f xs)
+
+-- the item of a list that is seen through a map
+pub item_at : {X Y : Type 0} (f : X → Y) (xs : List X) (ys : List Y) (i : ℕ) (x : X) → map f xs ≡ ys → slice_get xs i ≡ Some x → slice_get ys i ≡ Some (f x)
+item_at {X = X} {Y = Y} f xs ys i x same here =
+    ap (λ (zs : List Y). slice_get zs i) (sym same) ∙ slice_get-map f xs i ∙ ap (λ (o : Option X). option_map f o) here
+
+pub no_item_at : {X Y : Type 0} (f : X → Y) (xs : List X) (ys : List Y) (i : ℕ) → map f xs ≡ ys → slice_get xs i ≡ None → slice_get ys i ≡ None
+no_item_at {X = X} {Y = Y} f xs ys i same here =
+    ap (λ (zs : List Y). slice_get zs i) (sym same) ∙ slice_get-map f xs i ∙ ap (λ (o : Option X). option_map f o) here
+
+pub past_items : {X Y : Type 0} (P : Y → Type 0) (f : X → Y) (xs : List X) (ys : List Y) (i : ℕ) → map f xs ≡ ys → length xs ≤ i → IsSomeAnd (slice_get ys i) P → ⊥
+past_items {Y = Y} P f xs ys i same past h = subst (λ (o : Option Y). IsSomeAnd o P) (no_item_at f xs ys i same (slice_get_past xs i past)) h
+
+-- where `get` found it
+pub found_at : {X Y : Type 0} (f : X → Y) (xs : List X) (ys : List Y) (i : ℕ) (x : X) → map f xs ≡ ys → i < length xs → x ≡ get_or xs i x → slice_get ys i ≡ Some (f x)
+found_at f xs ys i x same less is = item_at f xs ys i x same (slice_get_read xs (length xs) i x refl less is)
+
+-- an item that it doesn't hold of
+pub all_not_at : {X Y : Type 0} (P : Y → Type 0) (f : X → Y) (xs : List X) (i : ℕ) (d : X) → i < length xs → (P (f (get_or xs i d)) → ⊥) → All P (map f xs) → ⊥
+all_not_at P f [] i d less not all = absurd (omega (arith, less))
+all_not_at P f (x ∷ xs) zero d less not all = not (All-head P (f x) (map f xs) all)
+all_not_at P f (x ∷ xs) (suc i) d less not all = all_not_at P f xs i d (omega (arith, less)) not (All-tail P (f x) (map f xs) all)
+
+pub read_at : {X : Type 0} (xs ys : List X) (i : ℕ) (x : X) → xs ≡ ys → i < length xs → x ≡ get_or xs i x → slice_get ys i ≡ Some x
+read_at {X = X} xs ys i x same less is = ap (λ (zs : List X). slice_get zs i) (sym same) ∙ slice_get_read xs (length xs) i x refl less is

@@ -4,5 +4,6 @@ pub mod Contexts
 pub mod Limits
 pub mod Items
 pub mod Validity
+pub mod Checking
 pub mod Profile
 pub mod Laws

@@ -3,6 +3,8 @@ use Rattle.std.specs.Prelude.{◌≡◌, ℕ, ◌<◌, ◌⊎◌, length, take, 
 use Rattle.wz_module.specs.Module.{Module}
 use Rattle.wz_valid.specs.declared.faults.Part.{Part}
 use Rattle.wz_valid.specs.declared.faults.Part.TheVariants as part
+use Rattle.wz_valid.specs.declared.faults.ValidFault.{ValidFault}
+use Rattle.wz_valid.specs.declared.faults.ValidFault.TheVariants.{Invalid, NoMemory}
 use Rattle.wz_valid.specs.Indices.{imported_memories}
 use Rattle.wz_valid.specs.Limits.{IsTableOk, IsMemoryOk}
 use Rattle.wz_valid.specs.Items.{IsImportOk, IsFunctionOk, IsBodyOk, IsOnlyMemory, IsGlobalOk, IsExportOk, IsStartOk, IsElemOk, IsDataModeOk}
@@ -64,3 +66,8 @@ pub record IsFirstInvalid (m : Module) (part : Part) (index : ℕ) : Type 0 wher
   pub there : index < part_length m part
   pub broken : IsItemOk m part index → ⊥
   pub before : (one : Part) (other : ℕ) → other < part_length m one → StandsBefore one other part index → IsItemOk m one other
+
+-- Why a module isn't accepted: its first item that isn't ok. Want of memory has no cause in the module.
+abbrev pub IsRefused : Module → ValidFault → Type 0
+IsRefused m (Invalid part index) = IsFirstInvalid m part index
+IsRefused m NoMemory = Unit {0}

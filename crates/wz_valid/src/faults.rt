@@ -1,5 +1,10 @@
 //! Why a module is refused.
 
+ghost use Rattle.std.specs.Prelude.{◌≡◌};
+ghost use Rattle.wz_valid.specs.declared.faults.ValidFault.TheVariants.{NoMemory};
+
+use std::alloc::AllocError;
+
 /// The parts of a module, in the order in which their items are looked at.
 #[derive(Clone, Copy, Debug, PartialEq, Eq)]
 pub enum Part {
@@ -21,6 +26,14 @@ pub enum ValidFault {
     /// The first item that isn't ok, by its part and its number there. The start has number 0.
     Invalid { part: Part, index: u32 },
     NoMemory,
+}
+
+impl From<AllocError> for ValidFault {
+    ghost from_gives = { λ _ fault. fault ≡ NoMemory };
+
+    fn from(_error: AllocError) -> ValidFault {
+        ValidFault::NoMemory
+    }
 }
 
 /// Why a valid module is outside the profile.

@@ -7,6 +7,7 @@ ghost use Rattle.wz_module.specs.Views.{import_of};
 ghost use Rattle.wz_valid.specs.Indices.{memory_import, imported_memories};
 ghost use Rattle.wz_valid.specs.Items.{IsImportOk, IsFunctionOk, IsOnlyMemory};
 ghost use Rattle.wz_valid.specs.Validity.{IsItemOk};
+ghost use Rattle.wz_valid.specs.Checking.{TellsItem};
 ghost use Rattle.wz_valid.specs.declared.faults.Part.TheVariants as part;
 
 use crate::limits::{is_memory_ok, is_table_ok};
@@ -37,15 +38,29 @@ pub fn memory_count(imports: &[Import<'_>]) -> usize
     count
 }
 
-fn is_import_kind_ok(module: &Module<'_>, kind: ImportKind, memories: usize) -> bool
-    ensures { let fine = IsImportOk (module_of «module».now) memories kind in
+/// Whether what an import asks for is ok, behind these imports. They are looked at for a memory
+/// alone, so at most twice in a module.
+fn is_import_kind_ok(module: &Module<'_>, kind: ImportKind, before: &[Import<'_>]) -> bool
+    ensures { let memories = length (imported_memories (map import_of before.now)) in
+        let fine = IsImportOk (module_of «module».now) memories kind in
         MatchBool result fine (fine → ⊥) }
 {
     match kind {
         ImportKind::Func(number) => (number as usize) < module.types().len(),
         ImportKind::Table(table) => is_table_ok(table),
-        ImportKind::Memory(memory) => is_memory_ok(memory) && memories == 0,
+        ImportKind::Memory(memory) => is_memory_ok(memory) && memory_count(before) == 0,
         ImportKind::Global(_) => true,
+    }
+}
+
+pub fn is_import_ok(module: &Module<'_>, index: usize) -> bool
+    ensures { TellsItem (module_of «module».now) part.Import index result }
+{
+    let imports = module.imports();
+    if index < imports.len() {
+        is_import_kind_ok(module, imports[index].kind, &imports[..index])
+    } else {
+        false
     }
 }
 
