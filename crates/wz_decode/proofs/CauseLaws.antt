@@ -20,10 +20,10 @@ use Rattle.wz_decode.specs.Spelling.{Spells}
 use Rattle.wz_decode.specs.Contents.{IsInGrammar, IsFrontOf, IsBadSection}
 use Rattle.wz_decode.specs.Front.{IsWhole, HasBadCounts}
 use Rattle.wz_decode.specs.Causes.{LacksHeader, IsCause}
-use Rattle.wz_decode.specs.Laws.{CauseIsOne, SpelledHasNone}
+use Rattle.wz_decode.specs.Laws.{CauseIsOne, SpelledHasNone, WholeIsFront, FrontIsWhole}
 use Rattle.wz_decode.proofs.SectionLaws.{section_exact, no_section, items_push}
 use Rattle.wz_decode.proofs.OneModule.{behind_header, one_whole, whole_of}
-use Rattle.wz_decode.proofs.GrammarLemmas.{all_in_grammar}
+use Rattle.wz_decode.proofs.GrammarLemmas.{all_in_grammar, parts_of}
 
 -- ---- a list of items that begins with another
 
@@ -109,6 +109,32 @@ none_longer bytes long behind at ys bad parts spelled more order contents =
     let front = one_more bytes f.text bad.rest behind g.between at f.sections ys g.others f.parts f.many f.spelled g.are g.parts g.spelled bad.more more order contents in
     bad.none front.0 front.1
 
+-- ---- all of the bytes
+
+pub whole_is_front : WholeIsFront
+whole_is_front bytes m w = record {
+  text = w.text;
+  sections = m.sections;
+  many = refl;
+  parts = w.whole ∙ ap (λ (t : List ℕ). header ++ t) (sym (append-nil w.text));
+  spelled = w.sections;
+  order = w.parts.order;
+  contents = all_in_grammar m w.parts;
+}
+
+pub front_is_whole : FrontIsWhole
+front_is_whole bytes n f =
+    let h = parts_of f.sections f.order f.contents in (
+      h.0,
+      ap (λ (l : List Section). length l) h.1 ∙ f.many,
+      record {
+        text = f.text;
+        whole = f.parts ∙ ap (λ (t : List ℕ). header ++ t) (append-nil f.text);
+        sections = subst (λ (l : List Section). AreSections f.text l) (sym h.1) f.spelled;
+        parts = h.2;
+      },
+    )
+
 -- ---- one cause
 
 none_after : (bytes : List ℕ) (at other : ℕ) → IsBadSection bytes at → IsBadSection bytes other → at < other → ⊥
@@ -127,8 +153,8 @@ one_bad_section bytes at other h k = elim (cases_lt at other) [
 
 none_whole : (bytes : List ℕ) (at : ℕ) (m : Module) → IsBadSection bytes at → IsWhole bytes m → ⊥
 none_whole bytes at m bad w =
-    let parts : bytes ≡ header ++ (w.text ++ []) = w.whole ∙ ap (λ (t : List ℕ). header ++ t) (sym (append-nil w.text)) in
-    none_longer bytes w.text [] at m.sections bad parts w.sections (inr refl) w.parts.order (all_in_grammar m w.parts)
+    let f = whole_is_front bytes m w in
+    none_longer bytes f.text [] at f.sections bad f.parts f.spelled (inr refl) f.order f.contents
 
 pub cause_is_one : CauseIsOne
 cause_is_one bytes NotWasm NotWasm h k = refl

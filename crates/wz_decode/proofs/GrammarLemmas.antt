@@ -5,6 +5,7 @@ use Rattle.std.specs.List.{All}
 use Rattle.std.proofs.lemmas.Bool.{cases_Bool, cases_eq, cases_lt, eqb-true, eq-eqb, ne_eqb, lt-ltb, le-ltb}
 use Rattle.std.proofs.lemmas.List.Elements.{All-head, All-tail, All-nil, All-cons}
 use Rattle.wz_bytes.specs.Reading.{Form}
+use Rattle.wz_bytes.proofs.ReadingLemmas.{some_is}
 use Rattle.wz_module.specs.Sections.{Section, section_rank, ranks_of, Rises, payload_of}
 use Rattle.wz_module.specs.Module.{Module}
 use Rattle.wz_decode_sections.specs.TypeSection.{IsTypeSection}
@@ -99,3 +100,77 @@ all_in_order low (s ∷ sections) rise customs held = elim (cases_Bool (s.id == 
 
 pub all_in_grammar : (m : Module) → HasParts m → All IsInGrammar m.sections
 all_in_grammar m h = all_in_order 0 m.sections h.order h.customs (λ id placed. held_at m h id placed)
+
+-- ---- and the parts that such sections hold
+
+held_in : (id : ℕ) (sections : List Section) → All IsInGrammar sections → HeldAt sections id
+held_in id [] h payload e = absurd cc
+held_in id (s ∷ sections) h payload e = elim (cases_Bool (s.id == id)) [
+  | inl is ↦
+      let same : Some s.payload ≡ Some payload = rw is at e in
+      let first = subst (λ (k : ℕ). IsPayloadOf (kind_of_id k) s.payload) (eqb-true s.id id is) (All-head IsInGrammar s sections h) in
+      subst (λ (p : List ℕ). IsPayloadOf (kind_of_id id) p) (some_is s.payload payload same) first
+  | inr other ↦ held_in id sections (All-tail IsInGrammar s sections h) payload (rw other at e)
+]
+
+named_in : (sections : List Section) → All IsInGrammar sections → All IsNamedIfCustom sections
+named_in [] h = All-nil IsNamedIfCustom
+named_in (s ∷ sections) h =
+    let first : IsNamedIfCustom s = (λ is. subst (λ (k : ℕ). IsPayloadOf (kind_of_id k) s.payload) is (All-head IsInGrammar s sections h)) in
+    All-cons IsNamedIfCustom s sections first (named_in sections (All-tail IsInGrammar s sections h))
+
+list_of : {X : Type 0} (S : Form (List X)) (o : Option (List ℕ)) → ((payload : List ℕ) → o ≡ Some payload → (xs : List X) × S payload xs) → (xs : List X) × HoldsList S o xs
+list_of S None h = ([], refl)
+list_of S (Some payload) h = h payload refl
+
+number_of : (S : Form ℕ) (o : Option (List ℕ)) → ((payload : List ℕ) → o ≡ Some payload → (n : ℕ) × S payload n) → (n : Option ℕ) × HoldsNumber S o n
+number_of S None h = (None, refl)
+number_of S (Some payload) h = let n = h payload refl in (Some n.0, n.1)
+
+pub parts_of : (sections : List Section) → Rises 0 (ranks_of sections) → All IsInGrammar sections → (m : Module) × (m.sections ≡ sections) × HasParts m
+parts_of sections order h =
+    let types = list_of (λ t x. IsTypeSection t x) (payload_of 1 sections) (held_in 1 sections h) in
+    let imports = list_of (λ t x. IsImportSection t x) (payload_of 2 sections) (held_in 2 sections h) in
+    let functions = list_of (λ t x. IsFunctionSection t x) (payload_of 3 sections) (held_in 3 sections h) in
+    let tables = list_of (λ t x. IsTableSection t x) (payload_of 4 sections) (held_in 4 sections h) in
+    let memories = list_of (λ t x. IsMemorySection t x) (payload_of 5 sections) (held_in 5 sections h) in
+    let globals = list_of (λ t x. IsGlobalSection t x) (payload_of 6 sections) (held_in 6 sections h) in
+    let exports = list_of (λ t x. IsExportSection t x) (payload_of 7 sections) (held_in 7 sections h) in
+    let start = number_of (λ t n. IsStartSection t n) (payload_of 8 sections) (held_in 8 sections h) in
+    let elements = list_of (λ t x. IsElementSection t x) (payload_of 9 sections) (held_in 9 sections h) in
+    let bodies = list_of (λ t x. IsCodeSection t x) (payload_of 10 sections) (held_in 10 sections h) in
+    let datas = list_of (λ t x. IsDataSection t x) (payload_of 11 sections) (held_in 11 sections h) in
+    let data_count = number_of (λ t n. IsDataCountSection t n) (payload_of 12 sections) (held_in 12 sections h) in (
+      record {
+        sections = sections;
+        types = types.0;
+        imports = imports.0;
+        functions = functions.0;
+        tables = tables.0;
+        memories = memories.0;
+        globals = globals.0;
+        exports = exports.0;
+        start = start.0;
+        elements = elements.0;
+        data_count = data_count.0;
+        bodies = bodies.0;
+        datas = datas.0;
+      },
+      refl,
+      record {
+        order = order;
+        customs = named_in sections h;
+        types = types.1;
+        imports = imports.1;
+        functions = functions.1;
+        tables = tables.1;
+        memories = memories.1;
+        globals = globals.1;
+        exports = exports.1;
+        start = start.1;
+        elements = elements.1;
+        data_count = data_count.1;
+        bodies = bodies.1;
+        datas = datas.1;
+      },
+    )

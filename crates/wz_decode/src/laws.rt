@@ -2,7 +2,7 @@
 //! function is a law, and its body is empty.
 
 ghost use Rattle.wz_decode.specs.Laws.{OneModule, OneFrontOfSections};
-ghost use Rattle.wz_decode.specs.Laws.{CauseIsOne, SpelledHasNone};
+ghost use Rattle.wz_decode.specs.Laws.{CauseIsOne, SpelledHasNone, WholeIsFront, FrontIsWhole};
 
 /// Bytes spell at most one module.
 #[tactic(auto, using(crate::proofs::OneModule::one_module))]
@@ -21,4 +21,11 @@ pub fn at_most_one_front()
 pub fn one_cause()
     ensures one { CauseIsOne }
     ensures spelled { SpelledHasNone }
+{}
+
+/// All of the bytes are a front of so many sections exactly where they are the sections of a
+/// module, so `IsBadSection` and `HasBadCounts` speak of the same fronts.
+pub fn whole_is_front()
+    ensures front { WholeIsFront }
+    ensures whole { FrontIsWhole }
 {}

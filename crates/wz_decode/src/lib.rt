@@ -10,8 +10,9 @@
 //! - the meaning of what was read: `found` of `decode`; that a spelled module is: `reads`;
 //! - why nothing was: `not_wasm`, `bad_section`, `bad_counts`; that each cause gives its answer:
 //!   `refuses_not_wasm`, `refuses_bad_section`, `refuses_bad_counts`;
-//! - that bytes spell one module at most, and have at most one front of so many sections, and that
-//!   the causes exclude each other and a spelled module: `laws`.
+//! - that bytes spell one module at most, and have at most one front of so many sections; that the
+//!   causes exclude each other and a spelled module; that a front which is all of the bytes is a
+//!   module's: `laws`.
 #![tactic(auto)]
 
 mod code;
