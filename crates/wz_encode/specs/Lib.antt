@@ -1,0 +1,9 @@
+pub mod Vectors
+pub mod SectionText
+pub mod Limits
+pub mod Constants
+pub mod Globals
+pub mod Exports
+pub mod Elements
+pub mod Datas
+pub mod Views
