@@ -1,1 +1,4 @@
 pub mod WriterLemmas
+pub mod WrittenLaws
+pub mod DatasWritten
+pub mod ElementsWritten

@@ -1,5 +1,5 @@
 -- Sections 5.3.10 and 5.5.9 of the Core Specification: how globals are written that begin with given values.
-use Rattle.std.specs.Prelude.{ℕ, Bool, List, [], ◌∷◌, ◌++◌, map, if◌then◌else◌}
+use Rattle.std.specs.Prelude.{ℕ, Bool, List, [], ◌∷◌, ◌++◌, if◌then◌else◌}
 use Rattle.std.specs.List.{zip}
 use Rattle.wz_types.specs.declared.types.GlobalType.{GlobalType}
 use Rattle.wz_types.specs.declared.value.Value.{Value}

@@ -7,3 +7,4 @@ pub mod Exports
 pub mod Elements
 pub mod Datas
 pub mod Views
+pub mod Laws

@@ -14,6 +14,7 @@ mod datas;
 mod elements;
 mod exports;
 mod globals;
+pub mod laws;
 mod memories;
 mod sections;
 

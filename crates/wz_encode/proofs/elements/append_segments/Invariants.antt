@@ -1,4 +1,4 @@
-use Rattle.std.proofs.Common.{◌≡◌, ◌++◌, length, take}
+use Rattle.std.proofs.Common.{◌≡◌, ◌++◌, take}
 use Rattle.wz_encode.specs.Elements.{all_covered, kept_segments_text}
 use Rattle.wz_encode.proofs.elements.append_segments.Given as goal
 
