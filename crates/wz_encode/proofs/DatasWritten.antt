@@ -26,14 +26,16 @@ offset_spelled at behind below can = (constant_expression_text (I32 at), bytes_t
 in_first : (at : ℕ) (behind : List ℕ) → at < 2 ^ 32 → CanBeBytes behind
     → IsData (0x00 ∷ (constant_expression_text (I32 at) ++ bytes_text behind)) (segment_of (HeadSlot 0 at (length behind)) behind)
 in_first at behind below can =
-    inl (0x00 ∷ [], constant_expression_text (I32 at) ++ bytes_text behind, refl, one_byte 0 (lit< tt), ((constant_code (I32 at), behind), offset_spelled at behind below can, refl))
+    let offset = offset_spelled at behind below can in
+    inl (0x00 ∷ [], constant_expression_text (I32 at) ++ bytes_text behind, refl, one_byte 0 (lit< tt), ((constant_code (I32 at), behind), offset, refl))
 
 in_other : (memory at : ℕ) (behind : List ℕ) → memory < 2 ^ 32 → at < 2 ^ 32 → CanBeBytes behind
     → IsData (0x02 ∷ (shortest_unsigned memory ++ (constant_expression_text (I32 at) ++ bytes_text behind))) (segment_of (HeadSlot memory at (length behind)) behind)
 in_other memory at behind few below can =
     let place : AtPlace IsBytes (shortest_unsigned memory ++ (constant_expression_text (I32 at) ++ bytes_text behind)) (memory, (constant_code (I32 at), behind)) =
     (shortest_unsigned memory, constant_expression_text (I32 at) ++ bytes_text behind, refl, number_spelled memory few, offset_spelled at behind below can) in
-    inr (inr (0x02 ∷ [], shortest_unsigned memory ++ (constant_expression_text (I32 at) ++ bytes_text behind), refl, one_byte 2 (lit< tt), ((memory, (constant_code (I32 at), behind)), place, refl)))
+    let second = shortest_unsigned memory ++ (constant_expression_text (I32 at) ++ bytes_text behind) in
+    inr (inr (0x02 ∷ [], second, refl, one_byte 2 (lit< tt), ((memory, (constant_code (I32 at), behind)), place, refl)))
 
 -- the head and the bytes behind it, as the flag and what stands behind that
 head_parts : (active expression count behind : List ℕ) → (active ++ (expression ++ count)) ++ behind ≡ active ++ (expression ++ (count ++ behind))

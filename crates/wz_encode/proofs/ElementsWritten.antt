@@ -36,7 +36,8 @@ within_from payload front text (elem ∷ elements) [] parts h = absurd h
 within_from payload front text (elem ∷ elements) (span ∷ spans) parts h =
     let first = h.0 in
     let whole : payload ≡ (front ++ first) ++ h.1 = parts ∙ ap (λ (t : List ℕ). front ++ t) h.2 ∙ sym (append_assoc front first h.1) in
-    let size : length payload ≡ length front + length first + length h.1 = ap (λ (t : List ℕ). length t) whole ∙ length-append (front ++ first) h.1 ∙ ap (λ (n : ℕ). n + length h.1) (length-append front first) in
+    let size : length payload ≡ length front + length first + length h.1 =
+    ap (λ (t : List ℕ). length t) whole ∙ length-append (front ++ first) h.1 ∙ ap (λ (n : ℕ). n + length h.1) (length-append front first) in
     let ends : span.at + span.len ≡ length front + length first = ap (λ (s : Span). s.at + s.len) h.4.is in
     let more = within_from payload (front ++ first) h.1 elements spans whole (subst (λ (n : ℕ). AreSpans n h.1 elements spans) (place_after front first) h.5) in
     All-cons (λ span. span.at + span.len ≤ length payload) span spans (omega (arith, size, ends)) more
@@ -45,7 +46,8 @@ pub spans_lie_within : SpansLieWithin
 spans_lie_within payload elements spans h = within_from payload h.count h.segments elements spans h.parts h.each
 
 -- a span covers its segment
-covered_is : (payload front first others : List ℕ) (span : Span) (head : ℕ) → payload ≡ front ++ (first ++ others) → span ≡ span_with (length front) head (length first) → covered_by payload span ≡ first
+covered_is : (payload front first others : List ℕ) (span : Span) (head : ℕ) → payload ≡ front ++ (first ++ others)
+    → span ≡ span_with (length front) head (length first) → covered_by payload span ≡ first
 covered_is payload front first others span head parts is =
     let from : drop (length front) payload ≡ first ++ others = ap (λ (t : List ℕ). drop (length front) t) parts ∙ drop_at front (first ++ others) (length front) refl in
     let many : length front + length first - length front ≡ length first = omega arith in
@@ -73,12 +75,15 @@ declarative_spelled text elem (inr (inr (inr (inr (inr (inl h)))))) passive =
 declarative_spelled text elem (inr (inr (inr (inr (inr (inr (inl h))))))) passive = let m = ap (λ (e : Elem). e.mode) h.4.2 in absurd cc
 declarative_spelled text elem (inr (inr (inr (inr (inr (inr (inr h))))))) passive = let m = ap (λ (e : Elem). e.mode) h.4.2 in absurd cc
 
-segment_spelled : (dropped : Bool) (text : List ℕ) (elem : Elem) → IsElem text elem → (IsTrue dropped → elem.mode ≡ PassiveElem) → IsElem (segment_text dropped text) (if dropped then as_declarative elem else elem)
+segment_spelled : (dropped : Bool) (text : List ℕ) (elem : Elem) → IsElem text elem → (IsTrue dropped → elem.mode ≡ PassiveElem)
+    → IsElem (segment_text dropped text) (if dropped then as_declarative elem else elem)
 segment_spelled true text elem h passive = declarative_spelled text elem h (passive refl)
 segment_spelled false text elem h passive = h
 
-kept_spelled : (payload front text dropped : List ℕ) (number : ℕ) (elements : List Elem) (spans : List Span) → payload ≡ front ++ text → AreSpans (length front) text elements spans
-    → DroppedArePassive dropped number elements → AreItems (λ t x. IsElem t x) (kept_segments_text dropped number (all_covered payload spans)) (kept_elements dropped number elements)
+kept_spelled : (payload front text dropped : List ℕ) (number : ℕ) (elements : List Elem) (spans : List Span) → payload ≡ front ++ text
+    → AreSpans (length front) text elements spans
+    → DroppedArePassive dropped number elements
+    → AreItems (λ t x. IsElem t x) (kept_segments_text dropped number (all_covered payload spans)) (kept_elements dropped number elements)
 kept_spelled payload front text dropped number [] [] parts h passive = refl
 kept_spelled payload front text dropped number [] (span ∷ spans) parts h passive = absurd h
 kept_spelled payload front text dropped number (elem ∷ elements) [] parts h passive = absurd h
@@ -116,16 +121,20 @@ both_items : {X : Type 0} (S : Form X) (one other : List ℕ) (xs ys : List X) �
 both_items S one other [] ys h k = rw h k
 both_items S one other (x ∷ xs) ys h k = (h.0, h.1 ++ other, ap (λ (t : List ℕ). t ++ other) h.2 ∙ append_assoc h.0 h.1 other, h.3, both_items S h.1 other xs ys h.4 k)
 
-anew_spelled : (segments : List (List ℕ)) (dropped functions : List ℕ) (kept : List Elem) → length kept ≡ length segments → length segments + 1 < 2 ^ 32 → CanBeVector CanBeIndex functions
-    → AreItems (λ t x. IsElem t x) (kept_segments_text dropped 0 segments) kept → IsElementSection (elements_anew segments dropped functions) (kept ++ map declaring (declarations functions))
+anew_spelled : (segments : List (List ℕ)) (dropped functions : List ℕ) (kept : List Elem) → length kept ≡ length segments → length segments + 1 < 2 ^ 32
+    → CanBeVector CanBeIndex functions
+    → AreItems (λ t x. IsElem t x) (kept_segments_text dropped 0 segments) kept
+    → IsElementSection (elements_anew segments dropped functions) (kept ++ map declaring (declarations functions))
 anew_spelled segments dropped functions kept same few can h =
     let more = map declaring (declarations functions) in
-    let items = both_items (λ t x. IsElem t x) (kept_segments_text dropped 0 segments) (flat_map declaration_text (declarations functions)) kept more h (declarations_spelled functions can) in
+    let new = flat_map declaration_text (declarations functions) in
+    let items = both_items (λ t x. IsElem t x) (kept_segments_text dropped 0 segments) new kept more h (declarations_spelled functions can) in
     let number = length segments + length (declarations functions) in
     let size : number ≡ length (kept ++ more) = let l = length-append kept more in let m = length-map (declarations functions) declaring in omega (arith, l, m, same) in
     let most = at_most_one functions in
-    let count : IsUnsigned 32 (shortest_unsigned number) (length (kept ++ more)) = subst (λ (n : ℕ). IsUnsigned 32 (shortest_unsigned number) n) size (number_spelled number (omega (arith, few, most))) in
-    (shortest_unsigned number, kept_segments_text dropped 0 segments ++ flat_map declaration_text (declarations functions), refl, count, items)
+    let count : IsUnsigned 32 (shortest_unsigned number) (length (kept ++ more)) =
+    subst (λ (n : ℕ). IsUnsigned 32 (shortest_unsigned number) n) size (number_spelled number (omega (arith, few, most))) in
+    (shortest_unsigned number, kept_segments_text dropped 0 segments ++ new, refl, count, items)
 
 pub declaration_is_spelled : DeclarationIsSpelled
 declaration_is_spelled spans dropped functions can = anew_spelled [] dropped functions [] refl (omega arith) can refl
@@ -149,16 +158,20 @@ first_holds : (a b : Bool) → (a && b) ≡ true → a ≡ true
 first_holds true b h = refl
 first_holds false b h = h
 
-nothing_new : (elements : List Elem) (dropped functions : List ℕ) → ((length dropped == 0) && (length functions == 0)) ≡ true → elements_with elements dropped functions ≡ elements
+nothing_new : (elements : List Elem) (dropped functions : List ℕ) → ((length dropped == 0) && (length functions == 0)) ≡ true
+    → elements_with elements dropped functions ≡ elements
 nothing_new elements [] [] h = ap (λ (es : List Elem). es ++ []) (none_dropped 0 elements) ∙ append-nil elements
 nothing_new elements [] (f ∷ functions) h = let e = eqb-true (length (f ∷ functions)) 0 h in absurd (omega (arith, e))
-nothing_new elements (d ∷ dropped) functions h = let e = eqb-true (length (d ∷ dropped)) 0 (first_holds (length (d ∷ dropped) == 0) (length functions == 0) h) in absurd (omega (arith, e))
+nothing_new elements (d ∷ dropped) functions h =
+    let e = eqb-true (length (d ∷ dropped)) 0 (first_holds (length (d ∷ dropped) == 0) (length functions == 0) h) in absurd (omega (arith, e))
 
 pub elements_are_spelled : ElementsAreSpelled
 elements_are_spelled payload elements spans dropped functions h few passive can = elim (cases_Bool ((length dropped == 0) && (length functions == 0))) [
   | inl same ↦ rw (same, nothing_new elements dropped functions same) (spans_are_of_all payload elements spans h)
   | inr other ↦
-      let many : length (all_covered payload spans) ≡ length elements = length-map spans (λ span. covered_by payload span) ∙ sym (spans_length (length h.count) h.segments elements spans h.each) in
-      rw other (anew_spelled (all_covered payload spans) dropped functions (kept_elements dropped 0 elements) (kept_length dropped 0 elements ∙ sym many) (omega (arith, many, few)) can
-      (kept_spelled payload h.count h.segments dropped 0 elements spans h.parts h.each passive))
+      let one_each = spans_length (length h.count) h.segments elements spans h.each in
+      let many : length (all_covered payload spans) ≡ length elements = length-map spans (λ span. covered_by payload span) ∙ sym one_each in
+      let kept = kept_elements dropped 0 elements in
+      let items = kept_spelled payload h.count h.segments dropped 0 elements spans h.parts h.each passive in
+      rw other (anew_spelled (all_covered payload spans) dropped functions kept (kept_length dropped 0 elements ∙ sym many) (omega (arith, many, few)) can items)
 ]

@@ -20,12 +20,14 @@ use Rattle.wz_encode.specs.Elements.{covered_by, all_covered, is_dropped, segmen
 -- what kept a longer front kept a shorter one
 pub front_kept : (a x b c : List ℕ) → b ≡ a ++ x → take (length b) c ≡ b → take (length a) c ≡ a
 front_kept a x b c e h =
-    let whole : c ≡ a ++ (x ++ drop (length b) c) = sym (take-append-drop (length b) c) ∙ ap (λ (t : List ℕ). t ++ drop (length b) c) (h ∙ e) ∙ append_assoc a x (drop (length b) c) in
-    ap (λ (t : List ℕ). take (length a) t) whole ∙ take_at a (x ++ drop (length b) c) (length a) refl
+    let rest = drop (length b) c in
+    let whole : c ≡ a ++ (x ++ rest) = sym (take-append-drop (length b) c) ∙ ap (λ (t : List ℕ). t ++ rest) (h ∙ e) ∙ append_assoc a x rest in
+    ap (λ (t : List ℕ). take (length a) t) whole ∙ take_at a (x ++ rest) (length a) refl
 
-pub on_err : {A E : Type 0} (P : Type 0) (r : Result A E) → P → OnErr r P
-on_err P (Ok x) h = tt
-on_err P (Err e) h = h
+-- the same, said of a result that is an error: where a piece was appended, and where two were
+pub front_kept_in_loop : {A E : Type 0} (r : Result A E) (a x b c : List ℕ) → b ≡ a ++ x → take (length b) c ≡ b → OnErr r (take (length a) c ≡ a)
+front_kept_in_loop (Ok v) a x b c e h = tt
+front_kept_in_loop (Err v) a x b c e h = front_kept a x b c e h
 
 pub front_kept_on_err : {A E : Type 0} (r : Result A E) (a x b y c d : List ℕ) → b ≡ a ++ x → c ≡ b ++ y → OnErr r (take (length c) d ≡ c) → OnErr r (take (length a) d ≡ a)
 front_kept_on_err (Ok v) a x b y c d e f h = tt
@@ -45,7 +47,8 @@ found_if_there xs x (Err i) h rises =
 
 -- one segment more was written
 kept-append : (dropped : List ℕ) (number : ℕ) (segments : List (List ℕ)) (segment : List ℕ)
-    → kept_segments_text dropped number (segments ++ segment ∷ []) ≡ kept_segments_text dropped number segments ++ segment_text (is_dropped dropped (number + length segments)) segment
+    → kept_segments_text dropped number (segments ++ segment ∷ [])
+    ≡ kept_segments_text dropped number segments ++ segment_text (is_dropped dropped (number + length segments)) segment
 kept-append dropped number [] segment = append-nil _ ∙ ap (λ (n : ℕ). segment_text (is_dropped dropped n) segment) (let e : number ≡ number + 0 = omega arith in e)
 kept-append dropped number (first ∷ segments) segment =
     let shift : number + 1 + length segments ≡ number + length (first ∷ segments) = omega arith in
@@ -69,7 +72,8 @@ one_segment_more dropped payload before out after spans i d inside h k =
     ∙ ap (λ (n : ℕ). kept_segments_text dropped 0 front ++ segment_text (is_dropped dropped n) segment) many))
 
 -- one global more was written
-pub one_global_more : (kinds : List GlobalType) (values : List Value) (i : ℕ) (before out after : List ℕ) (d : GlobalType) (e : Value) → i < length kinds → length kinds ≡ length values
+pub one_global_more : (kinds : List GlobalType) (values : List Value) (i : ℕ) (before out after : List ℕ) (d : GlobalType) (e : Value) → i < length kinds
+    → length kinds ≡ length values
     → out ≡ before ++ flat_map global_text (take i (zip kinds values)) → after ≡ out ++ global_text (get_or kinds i d, get_or values i e)
     → after ≡ before ++ flat_map global_text (take (i + 1) (zip kinds values))
 one_global_more kinds values i before out after d e inside same h k =

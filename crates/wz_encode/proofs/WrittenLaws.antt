@@ -56,7 +56,8 @@ items_spelled S item f (x ∷ xs) h =
     let tail = All-tail (λ x. S (item x) (f x)) x xs h in
     (item x, flat_map item xs, refl, head, items_spelled S item f xs tail)
 
-pub vector_spelled : {X Y : Type 0} (S : Form Y) (item : X → List ℕ) (f : X → Y) (xs : List X) → length xs < 2 ^ 32 → All (λ x. S (item x) (f x)) xs → IsVector S (vector_text item xs) (map f xs)
+pub vector_spelled : {X Y : Type 0} (S : Form Y) (item : X → List ℕ) (f : X → Y) (xs : List X) → length xs < 2 ^ 32 → All (λ x. S (item x) (f x)) xs
+    → IsVector S (vector_text item xs) (map f xs)
 vector_spelled S item f xs few h =
     let count : IsUnsigned 32 (shortest_unsigned (length xs)) (length (map f xs)) = rw (length-map xs f) (number_spelled (length xs) few) in
     (shortest_unsigned (length xs), flat_map item xs, refl, count, items_spelled S item f xs h)
@@ -77,7 +78,8 @@ section_spelled id payload small can = (id ∷ [], bytes_text payload, refl, (re
 limits_spelled : (min : ℕ) (max : Option ℕ) → min < 2 ^ 32 → IfSome max (λ max. max < 2 ^ 32) → IsLimits (limits_text min max) (limits_from min max)
 limits_spelled min None few most = inl (0x00 ∷ [], shortest_unsigned min, refl, (refl, lit< tt), (min, number_spelled min few, refl))
 limits_spelled min (Some max) few most =
-    let both : Two (shortest_unsigned min ++ shortest_unsigned max) (min, max) = (shortest_unsigned min, shortest_unsigned max, refl, number_spelled min few, number_spelled max most) in
+    let both : Two (shortest_unsigned min ++ shortest_unsigned max) (min, max) =
+    (shortest_unsigned min, shortest_unsigned max, refl, number_spelled min few, number_spelled max most) in
     inr (0x01 ∷ [], shortest_unsigned min ++ shortest_unsigned max, refl, (refl, lit< tt), ((min, max), both, refl))
 
 memory_spelled : (type : MemType) → CanBeMemory type → IsMemType (memory_type_text type) type
@@ -138,15 +140,19 @@ pub constant_spelled : ConstantIsSpelled
 constant_spelled (I32 bits) few =
     let z = cast_signed w32 bits in
     let within = within_32 bits few in
-    one_leaf (0x41 ∷ shortest_signed z) (Plain (instr.I32Const bits)) (shortest_signed z, refl, (z, (signed_shortest 32 z within (within_more z within)).spelled, sym (of_z-to_z w32 bits few)))
+    one_leaf (0x41 ∷ shortest_signed z) (Plain (instr.I32Const bits))
+    (shortest_signed z, refl, (z, (signed_shortest 32 z within (within_more z within)).spelled, sym (of_z-to_z w32 bits few)))
 constant_spelled (I64 bits) few =
     let z = cast_signed w64 bits in
     let within = within_64 bits few in
-    one_leaf (0x42 ∷ shortest_signed z) (Plain (instr.I64Const bits)) (shortest_signed z, refl, (z, (signed_shortest 64 z within within).spelled, sym (of_z-to_z w64 bits few)))
+    one_leaf (0x42 ∷ shortest_signed z) (Plain (instr.I64Const bits))
+    (shortest_signed z, refl, (z, (signed_shortest 64 z within within).spelled, sym (of_z-to_z w64 bits few)))
 constant_spelled (F32 bits) few =
-    one_leaf (0x43 ∷ to_le_bytes w32 bits) (Plain (instr.F32Const bits)) (to_le_bytes w32 bits, refl, (to_le_bytes w32 bits, (refl, refl, bytes_below 0 4 bits), sym (from_le_bytes-to_le_bytes_4 bits few)))
+    one_leaf (0x43 ∷ to_le_bytes w32 bits) (Plain (instr.F32Const bits))
+    (to_le_bytes w32 bits, refl, (to_le_bytes w32 bits, (refl, refl, bytes_below 0 4 bits), sym (from_le_bytes-to_le_bytes_4 bits few)))
 constant_spelled (F64 bits) few =
-    one_leaf (0x44 ∷ to_le_bytes w64 bits) (Plain (instr.F64Const bits)) (to_le_bytes w64 bits, refl, (to_le_bytes w64 bits, (refl, refl, bytes_below 0 8 bits), sym (from_le_bytes-to_le_bytes_8 bits few)))
+    one_leaf (0x44 ∷ to_le_bytes w64 bits) (Plain (instr.F64Const bits))
+    (to_le_bytes w64 bits, refl, (to_le_bytes w64 bits, (refl, refl, bytes_below 0 8 bits), sym (from_le_bytes-to_le_bytes_8 bits few)))
 constant_spelled (Ref (Null kind)) few = one_leaf (0xD0 ∷ kind_byte kind ∷ []) (Plain (instr.RefNull kind)) (kind_byte kind ∷ [], refl, refl)
 constant_spelled (Ref (Fn index)) few = one_leaf (0xD2 ∷ shortest_unsigned index) (Plain (instr.RefFunc index)) (shortest_unsigned index, refl, number_spelled index few)
 constant_spelled (Ref (Foreign id sort)) few = absurd few
@@ -158,14 +164,16 @@ mutability_spelled true = refl
 global_spelled : (g : GlobalType × Value) → CanBeConstant g.1 → IsGlobalDef (global_text g) (global_with g)
 global_spelled g can =
     let type = g.0 in
-    let kind : IsGlobalType (global_type_text type) type = ((type.value, type.mutable), (type_byte type.value ∷ [], mutability_byte type.mutable ∷ [], refl, refl, mutability_spelled type.mutable), refl) in
+    let kind : IsGlobalType (global_type_text type) type =
+    ((type.value, type.mutable), (type_byte type.value ∷ [], mutability_byte type.mutable ∷ [], refl, refl, mutability_spelled type.mutable), refl) in
     ((type, constant_code g.1), (global_type_text type, constant_expression_text g.1, refl, kind, constant_spelled g.1 can), refl)
 
 zip_can : (kinds : List GlobalType) (values : List Value) → All (λ v. CanBeConstant v) values → All (λ (g : GlobalType × Value). CanBeConstant g.1) (zip kinds values)
 zip_can [] values can = All-nil (λ (g : GlobalType × Value). CanBeConstant g.1)
 zip_can (kind ∷ kinds) [] can = All-nil (λ (g : GlobalType × Value). CanBeConstant g.1)
 zip_can (kind ∷ kinds) (value ∷ values) can =
-    All-cons (λ (g : GlobalType × Value). CanBeConstant g.1) (kind, value) (zip kinds values) (All-head (λ v. CanBeConstant v) value values can) (zip_can kinds values (All-tail (λ v. CanBeConstant v) value values can))
+    let more = zip_can kinds values (All-tail (λ v. CanBeConstant v) value values can) in
+    All-cons (λ (g : GlobalType × Value). CanBeConstant g.1) (kind, value) (zip kinds values) (All-head (λ v. CanBeConstant v) value values can) more
 
 pub globals_spelled : GlobalsAreSpelled
 globals_spelled kinds values same can =

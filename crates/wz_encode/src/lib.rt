@@ -17,6 +17,8 @@ mod globals;
 pub mod laws;
 mod memories;
 mod sections;
+#[cfg(test)]
+mod tests;
 
 pub use datas::{DataSlot, put_data};
 pub use elements::put_elements;

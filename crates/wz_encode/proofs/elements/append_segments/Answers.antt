@@ -1,11 +1,12 @@
 use Rattle.std.proofs.Common.{ℕ, List, ◌++◌, Bool, ap, ◌∙◌}
 use Rattle.wz_encode.specs.Elements.{is_dropped, segment_text}
-use Rattle.wz_encode.proofs.WriterLemmas.{front_kept, on_err, one_segment_more}
+use Rattle.wz_encode.proofs.WriterLemmas.{front_kept_in_loop, one_segment_more}
 use Rattle.wz_encode.proofs.elements.append_segments.Goals as goal
 
 pub returns-in_err-append_segment-clause-err : goal.returns-in_err-append_segment-clause-err
 returns-in_err-append_segment-clause-err c =
-    on_err _ c.from_residual.result (front_kept c.args.out.now.items _ c.loop-number.out.items c.append_segment.new.out.items c.loop-number.invariant c.in_err-append_segment.ensures.err)
+    front_kept_in_loop c.from_residual.result c.args.out.now.items _ c.loop-number.out.items c.append_segment.new.out.items
+    c.loop-number.invariant c.in_err-append_segment.ensures.err
 
 pub loop-number-preserved : goal.loop-number-preserved
 loop-number-preserved c =
