@@ -1,7 +1,7 @@
 -- What is written of element segments spells what it is written for.
 use Rattle.std.proofs.Common.{◌≡◌, ℕ, suc, ◌+◌, ◌-◌, ◌^◌, ◌<◌, ◌≤◌, List, [], ◌∷◌, ◌++◌, length, map, take, drop, Option, Some, Bool, true, false, refl, sym, ap, subst, ◌∙◌, append_assoc, arith, inl, inr, lit<}
 use Rattle.std.specs.Prelude.{◌==◌, ◌&&◌, if◌then◌else◌, IsTrue}
-use Rattle.std.specs.List.{All, flat_map}
+use Rattle.std.specs.List.{All, AllZip, concat, flat_map}
 use Rattle.std.proofs.lemmas.Bool.{cases_Bool, eqb-true}
 use Rattle.std.proofs.lemmas.List.{append-nil, length-append, length-map, drop_at, take_at}
 use Rattle.std.proofs.lemmas.List.Elements.{All-nil, All-cons, All-weaker}
@@ -17,10 +17,9 @@ use Rattle.wz_decode_code.specs.Instructions.{IsU32}
 use Rattle.wz_decode_sections.specs.FunctionSection.{AreIndices}
 use Rattle.wz_decode_sections.specs.ElementSection.{IsFunctionList, IsElem, IsElementSection}
 use Rattle.wz_decode_sections.specs.Spans.{span_with, AreSpans}
-use Rattle.wz_decode_sections.proofs.PayloadLaws.{spans_are_of_all}
 use Rattle.wz_encode.specs.Vectors.{vector_text}
 use Rattle.wz_encode.specs.Elements.{covered_by, all_covered, declarative_text, with_declarative_flag, is_dropped, segment_text, kept_segments_text, declaration_text, declarations, elements_anew, as_declarative, kept_elements, declaring, elements_with}
-use Rattle.wz_encode.specs.Laws.{CanBeVector, CanBeIndex, DroppedArePassive, SpansLieWithin, DeclarationIsSpelled, ElementsAreSpelled}
+use Rattle.wz_encode.specs.Laws.{CanBeVector, CanBeIndex, DroppedArePassive, SpansLieWithin, SpansCoverSegments, DeclarationIsSpelled, ElementsAreSpelled}
 use Rattle.wz_encode.proofs.WrittenLaws.{number_spelled, one_byte, list_spelled}
 
 -- ---- spans
@@ -56,6 +55,27 @@ covered_is payload front first others span head parts is =
     ∙ ap (λ (t : List ℕ). take (length first) t) from
     ∙ take_at first others (length first) refl
 
+covered_from : (payload front text : List ℕ) (elements : List Elem) (spans : List Span) → payload ≡ front ++ text → AreSpans (length front) text elements spans
+    → (text ≡ concat (all_covered payload spans)) × AllZip (λ t x. IsElem t x) (all_covered payload spans) elements
+covered_from payload front text [] [] parts h = (h, tt)
+covered_from payload front text [] (span ∷ spans) parts h = absurd h
+covered_from payload front text (elem ∷ elements) [] parts h = absurd h
+covered_from payload front text (elem ∷ elements) (span ∷ spans) parts h =
+    let first = h.0 in
+    let here : payload ≡ front ++ (first ++ h.1) = parts ∙ ap (λ (t : List ℕ). front ++ t) h.2 in
+    let covered : covered_by payload span ≡ first = covered_is payload front first h.1 span (length h.4.flag) here h.4.is in
+    let spans_behind = subst (λ (n : ℕ). AreSpans n h.1 elements spans) (place_after front first) h.5 in
+    let more = covered_from payload (front ++ first) h.1 elements spans (here ∙ sym (append_assoc front first h.1)) spans_behind in
+    let others = concat (all_covered payload spans) in (
+      h.2 ∙ ap (λ (t : List ℕ). first ++ t) more.0 ∙ ap (λ (t : List ℕ). t ++ others) (sym covered),
+      (subst (λ (t : List ℕ). IsElem t elem) (sym covered) h.3, more.1),
+    )
+
+pub spans_cover_segments : SpansCoverSegments
+spans_cover_segments payload elements spans h =
+    let c = covered_from payload h.count h.segments elements spans h.parts h.each in
+    record { count = h.count; parts = h.parts ∙ ap (λ (t : List ℕ). h.count ++ t) c.0; many = h.many; each = c.1 }
+
 -- ---- a passive segment as a declarative one
 
 read_flag : (first second : List ℕ) (flag : ℕ) → IsUnsigned 32 first flag → declarative_text (first ++ second) ≡ with_declarative_flag (Some (flag, second))
@@ -80,21 +100,19 @@ segment_spelled : (dropped : Bool) (text : List ℕ) (elem : Elem) → IsElem te
 segment_spelled true text elem h passive = declarative_spelled text elem h (passive refl)
 segment_spelled false text elem h passive = h
 
-kept_spelled : (payload front text dropped : List ℕ) (number : ℕ) (elements : List Elem) (spans : List Span) → payload ≡ front ++ text
-    → AreSpans (length front) text elements spans
-    → DroppedArePassive dropped number elements
-    → AreItems (λ t x. IsElem t x) (kept_segments_text dropped number (all_covered payload spans)) (kept_elements dropped number elements)
-kept_spelled payload front text dropped number [] [] parts h passive = refl
-kept_spelled payload front text dropped number [] (span ∷ spans) parts h passive = absurd h
-kept_spelled payload front text dropped number (elem ∷ elements) [] parts h passive = absurd h
-kept_spelled payload front text dropped number (elem ∷ elements) (span ∷ spans) parts h passive =
-    let first = h.0 in
-    let here : payload ≡ front ++ (first ++ h.1) = parts ∙ ap (λ (t : List ℕ). front ++ t) h.2 in
-    let covered : covered_by payload span ≡ first = covered_is payload front first h.1 span (length h.4.flag) here h.4.is in
-    let one = segment_spelled (is_dropped dropped number) (covered_by payload span) elem (subst (λ (t : List ℕ). IsElem t elem) (sym covered) h.3) passive.0 in
-    let more = kept_spelled payload (front ++ first) h.1 dropped (number + 1) elements spans (here ∙ sym (append_assoc front first h.1))
-    (subst (λ (n : ℕ). AreSpans n h.1 elements spans) (place_after front first) h.5) passive.1 in
-    (segment_text (is_dropped dropped number) (covered_by payload span), kept_segments_text dropped (number + 1) (all_covered payload spans), refl, one, more)
+kept_spelled : (dropped : List ℕ) (number : ℕ) (segments : List (List ℕ)) (elements : List Elem) → AllZip (λ t x. IsElem t x) segments elements
+    → DroppedArePassive dropped number elements → AreItems (λ t x. IsElem t x) (kept_segments_text dropped number segments) (kept_elements dropped number elements)
+kept_spelled dropped number [] [] h passive = refl
+kept_spelled dropped number [] (elem ∷ elements) h passive = absurd h
+kept_spelled dropped number (segment ∷ segments) [] h passive = absurd h
+kept_spelled dropped number (segment ∷ segments) (elem ∷ elements) h passive =
+    let one = segment_spelled (is_dropped dropped number) segment elem h.0 passive.0 in (
+      segment_text (is_dropped dropped number) segment,
+      kept_segments_text dropped (number + 1) segments,
+      refl,
+      one,
+      kept_spelled dropped (number + 1) segments elements h.1 passive.1,
+    )
 
 -- ---- the one that declares functions
 
@@ -137,19 +155,25 @@ anew_spelled segments dropped functions kept same few can h =
     (shortest_unsigned number, kept_segments_text dropped 0 segments ++ new, refl, count, items)
 
 pub declaration_is_spelled : DeclarationIsSpelled
-declaration_is_spelled spans dropped functions can = anew_spelled [] dropped functions [] refl (omega arith) can refl
+declaration_is_spelled dropped functions can = anew_spelled [] dropped functions [] refl (omega arith) can refl
 
 kept_length : (dropped : List ℕ) (number : ℕ) (elements : List Elem) → length (kept_elements dropped number elements) ≡ length elements
 kept_length dropped number [] = refl
 kept_length dropped number (elem ∷ elements) = ap (λ (n : ℕ). suc n) (kept_length dropped (number + 1) elements)
 
-spans_length : (at : ℕ) (text : List ℕ) (elements : List Elem) (spans : List Span) → AreSpans at text elements spans → length elements ≡ length spans
-spans_length at text [] [] h = refl
-spans_length at text [] (span ∷ spans) h = absurd h
-spans_length at text (elem ∷ elements) [] h = absurd h
-spans_length at text (elem ∷ elements) (span ∷ spans) h = ap (λ (n : ℕ). suc n) (spans_length (at + length h.0) h.1 elements spans h.5)
+one_each : (segments : List (List ℕ)) (elements : List Elem) → AllZip (λ t x. IsElem t x) segments elements → length elements ≡ length segments
+one_each [] [] h = refl
+one_each [] (elem ∷ elements) h = absurd h
+one_each (segment ∷ segments) [] h = absurd h
+one_each (segment ∷ segments) (elem ∷ elements) h = ap (λ (n : ℕ). suc n) (one_each segments elements h.1)
 
--- with nothing dropped all stay
+-- with nothing dropped and nothing declared, all stay
+as_items : (segments : List (List ℕ)) (elements : List Elem) → AllZip (λ t x. IsElem t x) segments elements → AreItems (λ t x. IsElem t x) (concat segments) elements
+as_items [] [] h = refl
+as_items [] (elem ∷ elements) h = absurd h
+as_items (segment ∷ segments) [] h = absurd h
+as_items (segment ∷ segments) (elem ∷ elements) h = (segment, concat segments, refl, h.0, as_items segments elements h.1)
+
 none_dropped : (number : ℕ) (elements : List Elem) → kept_elements [] number elements ≡ elements
 none_dropped number [] = refl
 none_dropped number (elem ∷ elements) = ap (λ (es : List Elem). elem ∷ es) (none_dropped (number + 1) elements)
@@ -163,15 +187,15 @@ nothing_new : (elements : List Elem) (dropped functions : List ℕ) → ((length
 nothing_new elements [] [] h = ap (λ (es : List Elem). es ++ []) (none_dropped 0 elements) ∙ append-nil elements
 nothing_new elements [] (f ∷ functions) h = let e = eqb-true (length (f ∷ functions)) 0 h in absurd (omega (arith, e))
 nothing_new elements (d ∷ dropped) functions h =
-    let e = eqb-true (length (d ∷ dropped)) 0 (first_holds (length (d ∷ dropped) == 0) (length functions == 0) h) in absurd (omega (arith, e))
+    let e = eqb-true (length (d ∷ dropped)) 0 (first_holds (length (d ∷ dropped) == 0) (length functions == 0) h) in
+    absurd (omega (arith, e))
 
 pub elements_are_spelled : ElementsAreSpelled
-elements_are_spelled payload elements spans dropped functions h few passive can = elim (cases_Bool ((length dropped == 0) && (length functions == 0))) [
-  | inl same ↦ rw (same, nothing_new elements dropped functions same) (spans_are_of_all payload elements spans h)
+elements_are_spelled payload segments elements dropped functions h few passive can = elim (cases_Bool ((length dropped == 0) && (length functions == 0))) [
+  | inl same ↦ rw (same, nothing_new elements dropped functions same) (h.count, concat segments, h.parts, h.many, as_items segments elements h.each)
   | inr other ↦
-      let one_each = spans_length (length h.count) h.segments elements spans h.each in
-      let many : length (all_covered payload spans) ≡ length elements = length-map spans (λ span. covered_by payload span) ∙ sym one_each in
       let kept = kept_elements dropped 0 elements in
-      let items = kept_spelled payload h.count h.segments dropped 0 elements spans h.parts h.each passive in
-      rw other (anew_spelled (all_covered payload spans) dropped functions kept (kept_length dropped 0 elements ∙ sym many) (omega (arith, many, few)) can items)
+      let many = one_each segments elements h.each in
+      let items = kept_spelled dropped 0 segments elements h.each passive in
+      rw other (anew_spelled segments dropped functions kept (kept_length dropped 0 elements ∙ many) (omega (arith, many, few)) can items)
 ]

@@ -15,8 +15,13 @@ use Rattle.wz_encode.specs.Vectors.{vector_text}
 abbrev pub covered_by : List ℕ → Span → List ℕ
 covered_by payload span = slice_range payload span.at (span.at + span.len)
 
+-- the old segments, one by one
 abbrev pub all_covered : List ℕ → List Span → List (List ℕ)
 all_covered payload spans = map (λ span. covered_by payload span) spans
+
+abbrev pub old_segments : Option (List ℕ) → List Span → List (List ℕ)
+old_segments None spans = []
+old_segments (Some payload) spans = all_covered payload spans
 
 -- the spans end within the old payload
 abbrev pub LieWithin : Option (List ℕ) → List Span → Type 0
@@ -66,12 +71,15 @@ elements_anew segments dropped functions =
     shortest_unsigned (length segments + length (declarations functions))
     ++ (kept_segments_text dropped 0 segments ++ flat_map declaration_text (declarations functions))
 
--- An old payload, whose segments have these spans, stays as it is where no segment is dropped and no function is to be declared.
-abbrev pub elements_text : Option (List ℕ) → List Span → List ℕ → List ℕ → List ℕ
-elements_text None spans dropped functions = elements_anew [] dropped functions
-elements_text (Some payload) spans dropped functions =
+-- An old payload of these segments stays as it is where none of them is dropped and no function is to be declared.
+abbrev pub elements_text : Option (List ℕ) → List (List ℕ) → List ℕ → List ℕ → List ℕ
+elements_text None segments dropped functions = elements_anew segments dropped functions
+elements_text (Some payload) segments dropped functions =
     if (length dropped == 0) && (length functions == 0) then payload
-    else elements_anew (all_covered payload spans) dropped functions
+    else elements_anew segments dropped functions
+
+abbrev pub elements_by_spans : Option (List ℕ) → List Span → List ℕ → List ℕ → List ℕ
+elements_by_spans old spans dropped functions = elements_text old (old_segments old spans) dropped functions
 
 -- ---- the segments that this payload spells
 

@@ -1,6 +1,6 @@
 -- What is written spells what it is written for, by the grammar of sections (chapter 5 of the Core Specification).
 use Rattle.std.specs.Prelude.{◌≡◌, ℕ, ◌+◌, ◌^◌, ◌<◌, List, [], ◌∷◌, ◌++◌, length, map, Some, None, IfSome, IsTrue, IsUtf8}
-use Rattle.std.specs.List.{All, zip}
+use Rattle.std.specs.List.{All, AllZip, concat, zip}
 use Rattle.wz_bytes.specs.Shortest.{shortest_unsigned}
 use Rattle.wz_bytes.specs.Forms.{IsByte, IsBytes, Both}
 use Rattle.wz_types.specs.declared.types.MemType.{MemType}
@@ -13,11 +13,12 @@ use Rattle.wz_module.specs.declared.items.ExportTarget.TheVariants.{Func, Table,
 use Rattle.wz_module.specs.declared.items.Span.{Span}
 use Rattle.wz_module.specs.Exports.{Export}
 use Rattle.wz_module.specs.Elements.{PassiveElem, Elem}
+use Rattle.wz_decode_code.specs.Instructions.{IsU32}
 use Rattle.wz_decode_code.specs.Code.{IsExpression}
 use Rattle.wz_decode_sections.specs.MemorySection.{IsMemorySection}
 use Rattle.wz_decode_sections.specs.GlobalSection.{IsGlobalSection}
 use Rattle.wz_decode_sections.specs.ExportSection.{IsExport, IsExportSection}
-use Rattle.wz_decode_sections.specs.ElementSection.{IsElementSection}
+use Rattle.wz_decode_sections.specs.ElementSection.{IsElem, IsElementSection}
 use Rattle.wz_decode_sections.specs.Spans.{HasSpans}
 use Rattle.wz_decode_sections.specs.DataSection.{IsData, IsDataSection}
 use Rattle.wz_decode_sections.specs.DataCountSection.{IsDataCountSection}
@@ -27,7 +28,7 @@ use Rattle.wz_encode.specs.Limits.{memories_text}
 use Rattle.wz_encode.specs.Constants.{constant_code, constant_expression_text}
 use Rattle.wz_encode.specs.Globals.{globals_text, global_with}
 use Rattle.wz_encode.specs.Exports.{export_text, exports_text}
-use Rattle.wz_encode.specs.Elements.{LieWithin, is_dropped, elements_text, elements_with}
+use Rattle.wz_encode.specs.Elements.{all_covered, LieWithin, is_dropped, elements_text, elements_with}
 use Rattle.wz_encode.specs.Datas.{Slot, PassiveSlot, EmptySlot, HeadSlot, slot_text, segment_of}
 
 -- ---- what can be written
@@ -64,6 +65,13 @@ target_index (Global index) = index
 abbrev pub CanBeExport : Export → Type 0
 CanBeExport export = IsUtf8 export.name × (length export.name < 2 ^ 32) × CanBeIndex (target_index export.target)
 
+-- the payload is a spelling of the number of its segments, and then these, one behind the other, each of which spells its element segment
+pub record AreSegmentsOf (payload : List ℕ) (segments : List (List ℕ)) (elements : List Elem) : Type 0 where
+  pub count : List ℕ
+  pub parts : payload ≡ count ++ concat segments
+  pub many : IsU32 count (length elements)
+  pub each : AllZip (λ text elem. IsElem text elem) segments elements
+
 -- the segments of the dropped numbers, from this number on, are passive
 abbrev pub DroppedArePassive : List ℕ → ℕ → List Elem → Type 0
 DroppedArePassive dropped number [] = Unit {0}
@@ -98,18 +106,21 @@ ExportsAreSpelled = (exports : List Export) → CanBeVector CanBeExport exports 
 
 -- where there was no element section
 abbrev pub DeclarationIsSpelled : Type 0
-DeclarationIsSpelled = (spans : List Span) (dropped functions : List ℕ) → CanBeVector CanBeIndex functions
-    → IsElementSection (elements_text None spans dropped functions) (elements_with [] dropped functions)
+DeclarationIsSpelled = (dropped functions : List ℕ) → CanBeVector CanBeIndex functions
+    → IsElementSection (elements_text None [] dropped functions) (elements_with [] dropped functions)
 
 -- where there was one
 abbrev pub ElementsAreSpelled : Type 0
-ElementsAreSpelled = (payload : List ℕ) (elements : List Elem) (spans : List Span) (dropped functions : List ℕ) → HasSpans payload elements spans
+ElementsAreSpelled = (payload : List ℕ) (segments : List (List ℕ)) (elements : List Elem) (dropped functions : List ℕ) → AreSegmentsOf payload segments elements
     → length elements + 1 < 2 ^ 32 → DroppedArePassive dropped 0 elements → CanBeVector CanBeIndex functions
-    → IsElementSection (elements_text (Some payload) spans dropped functions) (elements_with elements dropped functions)
+    → IsElementSection (elements_text (Some payload) segments dropped functions) (elements_with elements dropped functions)
 
--- the spans of a payload's segments are such as they have to be
+-- the spans of a payload's segments lie within it and cover them
 abbrev pub SpansLieWithin : Type 0
 SpansLieWithin = (payload : List ℕ) (elements : List Elem) (spans : List Span) → HasSpans payload elements spans → LieWithin (Some payload) spans
+
+abbrev pub SpansCoverSegments : Type 0
+SpansCoverSegments = (payload : List ℕ) (elements : List Elem) (spans : List Span) → HasSpans payload elements spans → AreSegmentsOf payload (all_covered payload spans) elements
 
 -- a slot, with the bytes that follow it
 abbrev pub DataIsSpelled : Type 0

@@ -10,7 +10,7 @@ ghost use Rattle.wz_encode.specs.Elements.{LieWithin, covered_by, all_covered};
 ghost use Rattle.wz_encode.specs.Elements.{declarative_flag, declarative_text, is_dropped};
 ghost use Rattle.wz_encode.specs.Elements.{segment_text, kept_segments_text};
 ghost use Rattle.wz_encode.specs.Elements.{declaration_text, declarations};
-ghost use Rattle.wz_encode.specs.Elements.{elements_anew, elements_text};
+ghost use Rattle.wz_encode.specs.Elements.{elements_anew, elements_by_spans};
 
 use crate::append::all_or_nothing;
 use std::alloc::AllocError;
@@ -30,8 +30,8 @@ pub fn put_elements(
     requires within { LieWithin (option_map (λ p. p.now) old) spans.now }
     requires few { length spans.now < 2 ^ 32 }
     requires rises { IsNonDecreasing dropped.now }
-    ensures ok { let text = elements_text (option_map (λ p. p.now) old.entry)
-        spans.now dropped.now functions.now in
+    ensures ok { let payload = option_map (λ p. p.now) old.entry in
+        let text = elements_by_spans payload spans.now dropped.now functions.now in
         OnOk result (out.new.items ≡ out.old.items ++ text) }
     ensures err { OnErr result (out.new.items ≡ out.old.items) }
 {
@@ -50,8 +50,8 @@ fn append_elements(
     requires within { LieWithin (option_map (λ p. p.now) old) spans.now }
     requires few { length spans.now < 2 ^ 32 }
     requires rises { IsNonDecreasing dropped.now }
-    ensures ok { let text = elements_text (option_map (λ p. p.now) old.entry)
-        spans.now dropped.now functions.now in
+    ensures ok { let payload = option_map (λ p. p.now) old.entry in
+        let text = elements_by_spans payload spans.now dropped.now functions.now in
         OnOk result (out.new.items ≡ out.old.items ++ text) }
     ensures err { OnErr result (take (length out.old.items) out.new.items ≡ out.old.items) }
 {

@@ -5,7 +5,7 @@ ghost use Rattle.wz_encode.specs.Laws.{SectionIsSpelled, CountIsSpelled};
 ghost use Rattle.wz_encode.specs.Laws.{MemoriesAreSpelled, ConstantIsSpelled, GlobalsAreSpelled};
 ghost use Rattle.wz_encode.specs.Laws.{ExportIsSpelled, ExportsAreSpelled};
 ghost use Rattle.wz_encode.specs.Laws.{DataIsSpelled, DatasAreSpelled, ElementsAreSpelled};
-ghost use Rattle.wz_encode.specs.Laws.{DeclarationIsSpelled, SpansLieWithin};
+ghost use Rattle.wz_encode.specs.Laws.{DeclarationIsSpelled, SpansLieWithin, SpansCoverSegments};
 
 /// A section whose id is a byte and whose contents are fewer than 2^32 bytes; a data count.
 pub fn sections_are_spelled()
@@ -25,6 +25,7 @@ pub fn lists_are_spelled()
 /// The contents of the element section, where there was none and where there was one.
 pub fn elements_are_spelled()
     ensures within { SpansLieWithin }
+    ensures cover { SpansCoverSegments }
     ensures declaration { DeclarationIsSpelled }
     ensures elements { ElementsAreSpelled }
 {}

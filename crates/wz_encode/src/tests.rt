@@ -48,21 +48,7 @@ fn sections_and_memories(rt: HostRuntime) -> Result<(), Fail> {
 }
 
 // The row, a global's type and whether it is mutable, its value, and the bytes of the global.
-const GLOBALS: [(&str, ValType, bool, Value, &[u8]); 9] = [
-    (
-        "42",
-        ValType::I32,
-        true,
-        Value::I32(42),
-        &[0x7F, 0x01, 0x41, 0x2A, 0x0B],
-    ),
-    (
-        "64, which takes two bytes",
-        ValType::I32,
-        false,
-        Value::I32(64),
-        &[0x7F, 0x00, 0x41, 0xC0, 0x00, 0x0B],
-    ),
+const GLOBALS: [(&str, ValType, bool, Value, &[u8]); 6] = [
     (
         "the least number",
         ValType::I32,
@@ -99,13 +85,6 @@ const GLOBALS: [(&str, ValType, bool, Value, &[u8]); 9] = [
         true,
         Value::Ref(Reference::Null(RefKind::Func)),
         &[0x70, 0x01, 0xD0, 0x70, 0x0B],
-    ),
-    (
-        "nothing",
-        ValType::ExternRef,
-        true,
-        Value::Ref(Reference::Null(RefKind::Extern)),
-        &[0x6F, 0x01, 0xD0, 0x6F, 0x0B],
     ),
     (
         "function 200",
