@@ -129,7 +129,7 @@ declarations_spelled : (functions : List ℕ) → CanBeVector CanBeIndex functio
 declarations_spelled [] can = refl
 declarations_spelled (f ∷ functions) can = (declaration_text (f ∷ functions), [], refl, declaration_spelled (f ∷ functions) can, refl)
 
-at_most_one : (functions : List ℕ) → length (declarations functions) ≤ 1
+pub at_most_one : (functions : List ℕ) → length (declarations functions) ≤ 1
 at_most_one [] = omega arith
 at_most_one (f ∷ functions) = omega arith
 

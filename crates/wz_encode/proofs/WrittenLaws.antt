@@ -113,26 +113,26 @@ low_half w n low = rw low refl
 high_half : (w : Width) (n : ℕ) → nat_lt n (2 ^ hbits w) ≡ false → cast_signed w n ≡ negsuc (2 ^ bits w - suc n)
 high_half w n high = rw high refl
 
-within_32 : (n : ℕ) → n < 2 ^ 32 → IsSignedNumber 32 (cast_signed w32 n)
+pub within_32 : (n : ℕ) → n < 2 ^ 32 → IsSignedNumber 32 (cast_signed w32 n)
 within_32 n few = elim (cases_Bool (nat_lt n (2 ^ 31))) [
   | inl low ↦ rw (low_half w32 n low) (let l = ltb-true n (2 ^ 31) low in omega (arith, ints, l))
   | inr high ↦ rw (high_half w32 n high) (let l = ltb-false n (2 ^ 31) high in omega (arith, ints, l))
 ]
 
-within_64 : (n : ℕ) → n < 2 ^ 64 → IsSignedNumber 64 (cast_signed w64 n)
+pub within_64 : (n : ℕ) → n < 2 ^ 64 → IsSignedNumber 64 (cast_signed w64 n)
 within_64 n few = elim (cases_Bool (nat_lt n (2 ^ 63))) [
   | inl low ↦ rw (low_half w64 n low) (let l = ltb-true n (2 ^ 63) low in omega (arith, ints, l))
   | inr high ↦ rw (high_half w64 n high) (let l = ltb-false n (2 ^ 63) high in omega (arith, ints, l))
 ]
 
-within_more : (z : ℤ) → IsSignedNumber 32 z → IsSignedNumber 64 z
+pub within_more : (z : ℤ) → IsSignedNumber 32 z → IsSignedNumber 64 z
 within_more z h = omega (arith, ints, h.0, h.1)
 
 byte_below : (i n : ℕ) → byte_at i n < 256
 byte_below zero n = mod_below n 256 (lit< tt)
 byte_below (suc i) n = mod_below _ 256 (lit< tt)
 
-bytes_below : (i k n : ℕ) → AreBytes (bytes_low_first i k n)
+pub bytes_below : (i k n : ℕ) → AreBytes (bytes_low_first i k n)
 bytes_below i zero n = All-nil (λ b. b < 256)
 bytes_below i (suc k) n = All-cons (λ b. b < 256) (byte_at i n) (bytes_low_first (suc i) k n) (byte_below i n) (bytes_below (suc i) k n)
 
@@ -168,7 +168,7 @@ global_spelled g can =
     ((type.value, type.mutable), (type_byte type.value ∷ [], mutability_byte type.mutable ∷ [], refl, refl, mutability_spelled type.mutable), refl) in
     ((type, constant_code g.1), (global_type_text type, constant_expression_text g.1, refl, kind, constant_spelled g.1 can), refl)
 
-zip_can : (kinds : List GlobalType) (values : List Value) → All (λ v. CanBeConstant v) values → All (λ (g : GlobalType × Value). CanBeConstant g.1) (zip kinds values)
+pub zip_can : (kinds : List GlobalType) (values : List Value) → All (λ v. CanBeConstant v) values → All (λ (g : GlobalType × Value). CanBeConstant g.1) (zip kinds values)
 zip_can [] values can = All-nil (λ (g : GlobalType × Value). CanBeConstant g.1)
 zip_can (kind ∷ kinds) [] can = All-nil (λ (g : GlobalType × Value). CanBeConstant g.1)
 zip_can (kind ∷ kinds) (value ∷ values) can =

@@ -1,8 +1,8 @@
 -- What is written spells what it is written for, by the grammar of sections (chapter 5 of the Core Specification).
-use Rattle.std.specs.Prelude.{◌≡◌, ℕ, ◌+◌, ◌^◌, ◌<◌, List, [], ◌∷◌, ◌++◌, length, map, Some, None, IfSome, IsTrue, IsUtf8}
+use Rattle.std.specs.Prelude.{◌≡◌, ℕ, ◌+◌, ◌^◌, ◌<◌, List, [], ◌∷◌, ◌++◌, length, map, Option, Some, None, IfSome, IsTrue, IsUtf8}
 use Rattle.std.specs.List.{All, AllZip, concat, zip}
 use Rattle.wz_bytes.specs.Shortest.{shortest_unsigned}
-use Rattle.wz_bytes.specs.Forms.{IsByte, IsBytes, Both}
+use Rattle.wz_bytes.specs.Forms.{AreBytes, IsByte, IsBytes, Both}
 use Rattle.wz_types.specs.declared.types.MemType.{MemType}
 use Rattle.wz_types.specs.declared.types.GlobalType.{GlobalType}
 use Rattle.wz_types.specs.declared.value.Reference.TheVariants.{Null, Fn, Foreign}
@@ -133,3 +133,24 @@ DatasAreSpelled = (slots : List (Slot × List ℕ)) → CanBeVector (λ s. CanBe
 
 abbrev pub CountIsSpelled : Type 0
 CountIsSpelled = (count : ℕ) → CanBeIndex count → IsDataCountSection (shortest_unsigned count) count
+
+-- ---- what is written are bytes
+
+abbrev pub MemoriesAreBytes : Type 0
+MemoriesAreBytes = (memories : List MemType) → CanBeVector CanBeMemory memories → AreBytes (memories_text memories)
+
+abbrev pub GlobalsAreBytes : Type 0
+GlobalsAreBytes = (kinds : List GlobalType) (values : List Value) → CanBeVector CanBeConstant values → AreBytes (globals_text kinds values)
+
+abbrev pub ExportsAreBytes : Type 0
+ExportsAreBytes = (exports : List Export) → CanBeVector CanBeExport exports → AreBytes (exports_text exports)
+
+abbrev pub ElementsAreBytes : Type 0
+ElementsAreBytes = (old : Option (List ℕ)) (segments : List (List ℕ)) (dropped functions : List ℕ) → IfSome old AreBytes → All AreBytes segments
+    → length segments + 1 < 2 ^ 32 → CanBeVector CanBeIndex functions → AreBytes (elements_text old segments dropped functions)
+
+abbrev pub DatasAreBytes : Type 0
+DatasAreBytes = (slots : List (Slot × List ℕ)) → CanBeVector (λ s. CanBeSegment s.0 s.1) slots → AreBytes (vector_text (λ s. slot_text s.0 ++ s.1) slots)
+
+abbrev pub CountIsBytes : Type 0
+CountIsBytes = (count : ℕ) → CanBeIndex count → AreBytes (shortest_unsigned count)

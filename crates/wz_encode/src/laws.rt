@@ -6,6 +6,8 @@ ghost use Rattle.wz_encode.specs.Laws.{MemoriesAreSpelled, ConstantIsSpelled, Gl
 ghost use Rattle.wz_encode.specs.Laws.{ExportIsSpelled, ExportsAreSpelled};
 ghost use Rattle.wz_encode.specs.Laws.{DataIsSpelled, DatasAreSpelled, ElementsAreSpelled};
 ghost use Rattle.wz_encode.specs.Laws.{DeclarationIsSpelled, SpansLieWithin, SpansCoverSegments};
+ghost use Rattle.wz_encode.specs.Laws.{MemoriesAreBytes, GlobalsAreBytes, ExportsAreBytes};
+ghost use Rattle.wz_encode.specs.Laws.{ElementsAreBytes, DatasAreBytes, CountIsBytes};
 
 /// A section whose id is a byte and whose contents are fewer than 2^32 bytes; a data count.
 pub fn sections_are_spelled()
@@ -34,4 +36,14 @@ pub fn elements_are_spelled()
 pub fn datas_are_spelled()
     ensures data { DataIsSpelled }
     ensures datas { DatasAreSpelled }
+{}
+
+/// Whatever is written are bytes: numbers below 256.
+pub fn written_are_bytes()
+    ensures memories { MemoriesAreBytes }
+    ensures globals { GlobalsAreBytes }
+    ensures exports { ExportsAreBytes }
+    ensures elements { ElementsAreBytes }
+    ensures datas { DatasAreBytes }
+    ensures count { CountIsBytes }
 {}
