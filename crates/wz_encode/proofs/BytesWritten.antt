@@ -50,7 +50,7 @@ one_more b bytes small h = All-cons Below b bytes small h
 both : (xs ys : List ℕ) → AreBytes xs → AreBytes ys → AreBytes (xs ++ ys)
 both xs ys h k = All-append Below xs ys h k
 
-behind_bytes : (xs ys : List ℕ) → AreBytes (xs ++ ys) → AreBytes ys
+pub behind_bytes : (xs ys : List ℕ) → AreBytes (xs ++ ys) → AreBytes ys
 behind_bytes [] ys h = h
 behind_bytes (x ∷ xs) ys h = behind_bytes xs ys (All-tail Below x (xs ++ ys) h)
 
@@ -77,7 +77,7 @@ number_bytes n few = unsigned_bytes 32 (shortest_unsigned n) n (number_spelled n
 pub count_bytes : CountIsBytes
 count_bytes count few = number_bytes count few
 
-vector_bytes : {X : Type 0} (item : X → List ℕ) (xs : List X) → length xs < 2 ^ 32 → All (λ x. AreBytes (item x)) xs → AreBytes (vector_text item xs)
+pub vector_bytes : {X : Type 0} (item : X → List ℕ) (xs : List X) → length xs < 2 ^ 32 → All (λ x. AreBytes (item x)) xs → AreBytes (vector_text item xs)
 vector_bytes item xs few h = both (shortest_unsigned (length xs)) (flat_map item xs) (number_bytes (length xs) few) (all_bytes item xs h)
 
 text_bytes : (bytes : List ℕ) → length bytes < 2 ^ 32 → AreBytes bytes → AreBytes (bytes_text bytes)
@@ -135,7 +135,8 @@ global_bytes : (g : GlobalType × Value) → CanBeConstant g.1 → AreBytes (glo
 global_bytes g can =
     let type = type_byte g.0.value in
     let mutable = mutability_byte g.0.mutable in
-    both (type ∷ mutable ∷ []) (constant_expression_text g.1) (one_more type (mutable ∷ []) (type_bytes g.0.value) (one_more mutable [] (mutability_bytes g.0.mutable) none)) (expression_bytes g.1 can)
+    let first = one_more type (mutable ∷ []) (type_bytes g.0.value) (one_more mutable [] (mutability_bytes g.0.mutable) none) in
+    both (type ∷ mutable ∷ []) (constant_expression_text g.1) first (expression_bytes g.1 can)
 
 pub globals_bytes : GlobalsAreBytes
 globals_bytes kinds values can =
@@ -210,7 +211,7 @@ active_bytes memory few = elim (cases_Bool (memory == 0)) [
   | inr other ↦ rw other (one_more 0x02 (shortest_unsigned memory) (lit< tt) (number_bytes memory few))
 ]
 
-slot_bytes : (slot : Slot) (behind : List ℕ) → CanBeSegment slot behind → AreBytes (slot_text slot ++ behind)
+pub slot_bytes : (slot : Slot) (behind : List ℕ) → CanBeSegment slot behind → AreBytes (slot_text slot ++ behind)
 slot_bytes (PassiveSlot bytes) behind can =
     both (slot_text (PassiveSlot bytes)) behind (one_more 0x01 (bytes_text bytes) (lit< tt) (text_bytes bytes can.0.0 can.0.1)) (subst AreBytes (sym can.1) none)
 slot_bytes EmptySlot behind can = both (slot_text EmptySlot) behind (one_more 0x01 (0x00 ∷ []) (lit< tt) (one_more 0x00 [] (lit< tt) none)) (subst AreBytes (sym can) none)

@@ -161,7 +161,7 @@ kept_length : (dropped : List ℕ) (number : ℕ) (elements : List Elem) → len
 kept_length dropped number [] = refl
 kept_length dropped number (elem ∷ elements) = ap (λ (n : ℕ). suc n) (kept_length dropped (number + 1) elements)
 
-one_each : (segments : List (List ℕ)) (elements : List Elem) → AllZip (λ t x. IsElem t x) segments elements → length elements ≡ length segments
+pub one_each : (segments : List (List ℕ)) (elements : List Elem) → AllZip (λ t x. IsElem t x) segments elements → length elements ≡ length segments
 one_each [] [] h = refl
 one_each [] (elem ∷ elements) h = absurd h
 one_each (segment ∷ segments) [] h = absurd h
