@@ -101,8 +101,8 @@ fn append_segments(
         OnOk result (out.new.items ≡ out.old.items ++ text) }
     ensures err { OnErr result (take (length out.old.items) out.new.items ≡ out.old.items) }
 {
-    for number in 0..spans.len() {
-        let segment = covered_by(payload, spans[number]);
+    for (number, span) in spans.iter().enumerate() {
+        let segment = covered_by(payload, *span);
         append_segment(out, segment, is_dropped(dropped, number as u32))?;
     }
     Ok(())

@@ -40,8 +40,8 @@ fn append_globals(
     ensures err { OnErr result (take (length out.old.items) out.new.items ≡ out.old.items) }
 {
     put_unsigned(out, kinds.len() as u64)?;
-    for at in 0..kinds.len() {
-        append_global(out, kinds[at], values[at])?;
+    for (kind, value) in kinds.iter().zip(values) {
+        append_global(out, *kind, *value)?;
     }
     Ok(())
 }

@@ -4,5 +4,5 @@ use Rattle.wz_bytes.specs.Shortest.{shortest_unsigned}
 use Rattle.wz_encode.specs.Globals.{global_text}
 use Rattle.wz_encode.proofs.globals.append_globals.Given as goal
 
-abbrev pub invariant-loop-at : goal.invariant-loop-at
-invariant-loop-at l = l.out.items ≡ l.fn.out.items ++ (shortest_unsigned (length l.kinds) ++ flat_map global_text (take l.at (zip l.kinds l.values)))
+abbrev pub invariant-loop-kind : goal.invariant-loop-kind
+invariant-loop-kind l = l.out.items ≡ l.fn.out.items ++ (shortest_unsigned (length l.kinds) ++ flat_map global_text (take (length l.yielded) (zip l.kinds l.values)))
