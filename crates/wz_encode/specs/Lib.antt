@@ -1,0 +1,10 @@
+pub mod Vectors
+pub mod SectionText
+pub mod Limits
+pub mod Constants
+pub mod Globals
+pub mod Exports
+pub mod Elements
+pub mod Datas
+pub mod Views
+pub mod Laws
