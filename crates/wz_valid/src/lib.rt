@@ -10,6 +10,8 @@
 mod checker;
 mod declared;
 mod faults;
+#[cfg(test)]
+mod hand_made;
 mod item_rules;
 pub mod laws;
 mod limits;

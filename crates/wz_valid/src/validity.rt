@@ -123,7 +123,7 @@ fn all_memory_count(module: &Module<'_>) -> u32
 /// a body where its function isn't.
 pub fn validate(alloc: Global, module: &Module<'_>) -> Result<(), ValidFault>
     ensures valid { OnOk result (IsValid (module_of «module».now)) }
-    ensures refused { IfErr result (λ fault. IsRefused (module_of «module».now) fault) }
+    ensures invalid { IfErr result (λ fault. IsRefused (module_of «module».now) fault) }
 {
     let functions = all_functions(alloc, module)?;
     let tables = all_tables(alloc, module)?;

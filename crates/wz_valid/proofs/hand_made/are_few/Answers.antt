@@ -1,6 +1,6 @@
 use Rattle.std.proofs.Common.{◌≡◌, ℕ, ◌<◌, List, [], ◌∷◌, IsTrue, All, length, subst}
 use Rattle.std.specs.Prelude.{◌↔◌}
-use Rattle.wz_valid.proofs.tests.are_few.Goals as goal
+use Rattle.wz_valid.proofs.hand_made.are_few.Goals as goal
 
 pub returns : goal.returns
 returns c =

@@ -1,4 +1,4 @@
-use Rattle.std.proofs.Common.{ℕ, ◌<◌, List, All, length, map, subst, arith}
+use Rattle.std.proofs.Common.{List, All, subst, arith}
 use Rattle.std.proofs.lemmas.List.Elements.{All-map}
 use Rattle.std.proofs.Math.ListN.{length-map}
 use Rattle.wz_module.specs.declared.items.Section as section
@@ -10,7 +10,7 @@ use Rattle.wz_types.specs.FunctionType.{FunctionType}
 use Rattle.wz_module.specs.Functions.{body_tree_of}
 use Rattle.wz_module.specs.Views.{section_of, import_of, export_of, global_of, elem_of, init_of, data_of}
 use Rattle.wz_module.specs.ShortLists.{IsShortList, HasShortSides, HasShortNames}
-use Rattle.wz_valid.proofs.tests.finish.Goals as goal
+use Rattle.wz_valid.proofs.hand_made.finish.Goals as goal
 
 pub from_parts-requires : goal.from_parts-requires
 from_parts-requires c =
