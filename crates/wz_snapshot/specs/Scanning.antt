@@ -1,5 +1,5 @@
 -- How far a memory was scanned. This is the tool's own.
-use Rattle.std.specs.Prelude.{ℕ, ◌≡◌, List, ◌++◌, length, replicate, take}
+use Rattle.std.specs.Prelude.{ℕ, ◌≡◌, List, ◌++◌, replicate, take}
 use Rattle.wz_plan.specs.Scanned.{Found, found_in}
 
 -- a scan has found what there is before a place of the memory: behind what it was shown are zeros alone

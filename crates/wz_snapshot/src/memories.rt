@@ -1,6 +1,6 @@
 //! The ranges of memories that become data segments.
 
-ghost use Rattle.std.specs.Prelude.{◌≡◌, ◌+◌, ◌*◌, ◌^◌, ◌≤◌, ◌++◌, length, map, IfOk, OnOk};
+ghost use Rattle.std.specs.Prelude.{◌≡◌, ◌+◌, ◌*◌, ◌/◌, ◌^◌, ◌≤◌, ◌++◌, length, map, IfOk, OnOk};
 ghost use Rattle.wz_plan.specs.Scanned.{found_in};
 ghost use Rattle.wz_snapshot.specs.Recorded.{chosen_segment, chosen_in, chosen_segments};
 ghost use Rattle.wz_snapshot.specs.Recorded.{pages_together};
@@ -40,7 +40,7 @@ fn scan_page<M: Linear>(
 
 /// Finds the runs of non-zero bytes of a memory, page by page.
 fn scan_memory<M: Linear>(alloc: Global, memory: &M) -> Result<Scan, AllocError>
-    requires { length (M.contents memory.now) ≤ 2 ^ 30 }
+    requires { length (M.contents memory.now) / PAGE_SIZE ≤ 16384 }
     ensures { IfOk result (λ scan. scan.runs ≡ (found_in (M.contents memory.now)).runs) }
 {
     // zeros behind what was shown add no run
@@ -81,7 +81,7 @@ fn add_memory<M: Linear>(
     limit: u32,
 ) -> Result<(), AllocError>
     requires some { 1 ≤ limit }
-    requires small { length (M.contents memory.now) ≤ 2 ^ 30 }
+    requires small { length (M.contents memory.now) / PAGE_SIZE ≤ 16384 }
     ensures { OnOk result
         (segments.new.items ≡
         segments.old.items ++ chosen_in limit number (M.contents memory.now)) }

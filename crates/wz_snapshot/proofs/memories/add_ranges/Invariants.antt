@@ -1,4 +1,4 @@
-use Rattle.std.proofs.Common.{◌≡◌, ◌++◌, length, map, take}
+use Rattle.std.proofs.Common.{◌≡◌, ◌++◌, map, take}
 use Rattle.wz_snapshot.specs.Recorded.{chosen_segment}
 use Rattle.wz_snapshot.proofs.memories.add_ranges.Given as goal
 

@@ -1,4 +1,4 @@
-use Rattle.std.proofs.Common.{◌≡◌, ◌++◌, length, map, take}
+use Rattle.std.proofs.Common.{◌≡◌, map, take}
 use Rattle.wz_snapshot.specs.Recorded.{has_no_items}
 use Rattle.wz_snapshot.proofs.parts.empty_elements.Given as goal
 

@@ -1,5 +1,4 @@
 use Rattle.std.proofs.Common.{arith}
-
 use Rattle.wz_snapshot.proofs.ListLemmas.{read_one, read_none}
 use Rattle.wz_snapshot.proofs.parts.global_values.Goals as goal
 use Rattle.wz_snapshot.proofs.parts.global_values.Goals.{in-Some+in_ok-push, in_default}

@@ -1,5 +1,4 @@
-use Rattle.std.proofs.Common.{◌≡◌, ◌++◌, length, map, take}
-
+use Rattle.std.proofs.Common.{◌≡◌, map, take}
 use Rattle.wz_snapshot.proofs.parts.global_values.Given as goal
 
 abbrev pub invariant-loop-at : goal.invariant-loop-at

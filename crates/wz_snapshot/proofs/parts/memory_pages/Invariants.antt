@@ -1,4 +1,4 @@
-use Rattle.std.proofs.Common.{◌≡◌, ◌++◌, length, map, take}
+use Rattle.std.proofs.Common.{◌≡◌, map, take}
 use Rattle.wz_store.specs.State.{pages_of}
 use Rattle.wz_snapshot.proofs.parts.memory_pages.Given as goal
 
