@@ -1,0 +1,4 @@
+pub mod NameLemmas
+pub mod SignatureLemmas
+pub mod KeptLemmas
+pub mod WholeLemmas
