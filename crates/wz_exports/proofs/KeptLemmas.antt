@@ -1,6 +1,6 @@
 -- The names of kept exports differ.
-use Rattle.std.proofs.Common.{◌≡◌, ◌≢◌, ℕ, suc, ◌+◌, ◌<◌, List, [], ◌∷◌, ◌++◌, length, get_or, take, map, Option, Some, None, Bool, true, false, cond, refl, sym, ap, subst, ◌∙◌, arith, unwrap_or, append-nil, length-take-le, Bor}
-use Rattle.std.specs.List.{All, AllPairs, flat_map}
+use Rattle.std.proofs.Common.{◌≡◌, ◌≢◌, ℕ, suc, ◌+◌, ◌<◌, List, [], ◌∷◌, ◌++◌, length, get_or, take, map, Option, Some, None, Bool, true, false, cond, refl, sym, ap, ◌∙◌, arith, unwrap_or, append-nil, length-take-le, Bor}
+use Rattle.std.specs.List.{All, AllPairs}
 use Rattle.std.specs.Prelude.{◌||◌, IfSome, option_copied}
 use Rattle.std.specs.Str.{bytes_eq}
 use Rattle.std.proofs.lemmas.Slice.Eq.{bytes_eq-Decides}
@@ -11,7 +11,6 @@ use Rattle.std.proofs.lemmas.List.Concat.{flat_map-append}
 use Rattle.wz_module.specs.Exports.{Export}
 use Rattle.wz_module.specs.Views.{export_of}
 use Rattle.wz_module.specs.declared.items.Export as item
-use Rattle.wz_module.specs.declared.items.ExportTarget.{ExportTarget}
 use Rattle.wz_words.specs.declared.settings.Rename.{Rename}
 use Rattle.wz_words.specs.Faults.{renames_to}
 use Rattle.wz_words.specs.Options.{same_text}

@@ -1,5 +1,5 @@
 -- Look-ups by name: in maps, and in the lists of exports and renames.
-use Rattle.std.proofs.Common.{◌≡◌, ℕ, suc, ◌+◌, ◌-◌, ◌<◌, ◌≤◌, List, [], ◌∷◌, ◌++◌, length, get_or, drop, map, Option, Some, None, Bool, true, false, cond, HashMap, HashSet, Bor, String, inl, inr, refl, sym, ap, subst, ◌∙◌, arith, drop-cons, add-one}
+use Rattle.std.proofs.Common.{◌≡◌, ℕ, ◌+◌, ◌-◌, ◌<◌, List, [], ◌∷◌, ◌++◌, length, get_or, drop, map, Option, Some, None, Bool, true, false, cond, HashMap, HashSet, Bor, String, inl, inr, refl, sym, ap, subst, ◌∙◌, arith, drop-cons, add-one}
 use Rattle.std.specs.Prelude.{◌||◌, ◌⊎◌}
 use Rattle.std.specs.HashSet.{contains_by}
 use Rattle.std.specs.HashMap.{UpdatesBy, get_by}
@@ -24,7 +24,7 @@ use Rattle.wz_exports.specs.declared.fault.ExportFault.{ExportFault}
 use Rattle.wz_exports.specs.declared.fault.ExportFault.TheVariants.{NoMemory}
 use Rattle.wz_exports.specs.Kept.{misnamed_at, or_next, first_misnamed}
 use Rattle.wz_words.specs.declared.settings.Rename.{Rename}
-use Rattle.wz_exports.specs.Names.{target_named, renamed_to}
+use Rattle.wz_exports.specs.Names.{target_named}
 use Rattle.wz_exports.specs.Answers.{HasTargets, HasNewNames}
 use Rattle.wz_exports.specs.Listed.{exports_in}
 

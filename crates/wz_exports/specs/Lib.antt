@@ -3,3 +3,5 @@ pub mod Functions
 pub mod Kept
 pub mod Answers
 pub mod Listed
+pub mod Undeclared
+pub mod Gathered

@@ -1,5 +1,5 @@
 -- The entries of a map from names to what is exported, as exports. This is the tool's own.
-use Rattle.std.specs.Prelude.{ℕ, List, map, string_bytes}
+use Rattle.std.specs.Prelude.{List, map, string_bytes}
 use Rattle.std.specs.declared.string.String.{String}
 use Rattle.wz_module.specs.declared.items.ExportTarget.{ExportTarget}
 use Rattle.wz_module.specs.Exports.{Export}

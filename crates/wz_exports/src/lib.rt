@@ -8,8 +8,11 @@ mod fault;
 mod keeping;
 mod kept;
 mod names;
+mod references;
 mod signatures;
+mod undeclaring;
 
 pub use fault::ExportFault;
 pub use keeping::keep;
 pub use kept::Kept;
+pub use undeclaring::undeclared;

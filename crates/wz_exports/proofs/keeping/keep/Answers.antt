@@ -1,10 +1,10 @@
-use Rattle.std.proofs.Common.{◌∙◌, List, sym, ap, map, subst}
+use Rattle.std.proofs.Common.{List, sym, ap, map, subst}
 use Rattle.std.proofs.lemmas.Result.{err_from_is_err_and}
 use Rattle.wz_module.specs.Exports.{Export}
 use Rattle.wz_module.specs.Meaning.{module_of}
 use Rattle.wz_module.specs.Views.{export_of}
 use Rattle.wz_words.specs.Settings.{settings_of}
-use Rattle.wz_exports.specs.Kept.{KeptExports, kept_exports}
+use Rattle.wz_exports.specs.Kept.{KeptExports}
 use Rattle.wz_exports.proofs.KeptLemmas.{NamesDiffer, names_differ}
 use Rattle.wz_exports.proofs.WholeLemmas.{no_function, no_reactor, no_rename, all_fit}
 use Rattle.wz_exports.proofs.keeping.keep.Goals as goal

@@ -1,7 +1,5 @@
 use Rattle.std.proofs.Common.{ℕ, List, slice_get, ap, ◌∙◌, arith}
-use Rattle.std.proofs.lemmas.Grind.{common_steps}
 use Rattle.wz_module.specs.Meaning.{module_of}
-use Rattle.wz_exports.specs.Functions.{signatures_of}
 use Rattle.wz_exports.proofs.SignatureLemmas.{found_here, one_behind, other_kind, own_left, read_number}
 use Rattle.wz_exports.proofs.signatures.signature_number.Goals as goal
 use Rattle.wz_exports.proofs.signatures.signature_number.Goals.{in-Func+else-left-eq0, in_default}
