@@ -1,5 +1,6 @@
 -- The names of kept exports differ.
-use Rattle.std.proofs.Common.{◌≡◌, ◌≢◌, ℕ, suc, ◌+◌, ◌<◌, List, [], ◌∷◌, ◌++◌, length, get_or, take, map, Option, Some, None, Bool, true, false, cond, refl, sym, ap, ◌∙◌, arith, unwrap_or, append-nil, length-take-le, Bor}
+use Rattle.std.proofs.Common.{◌≡◌, ◌≢◌, ℕ, suc, ◌+◌, ◌<◌, List, [], ◌∷◌, ◌++◌, length, get_or, take, map, Option, Some, None, Bool, true, false, cond, refl, sym, ap, ◌∙◌, arith}
+use Rattle.std.proofs.Common.{unwrap_or, append-nil, length-take-le, Bor}
 use Rattle.std.specs.List.{All, AllPairs}
 use Rattle.std.specs.Prelude.{◌||◌, IfSome, option_copied}
 use Rattle.std.specs.Str.{bytes_eq}
@@ -129,7 +130,8 @@ fresh_name s name n (x ∷ exports) differ others kept =
 not_named : (n : List ℕ) (exports : List Export) → target_named n exports ≡ None → All (λ e. n ≢ e.name) exports
 not_named n [] none = All-nil (λ (e : Export). n ≢ e.name)
 not_named n (x ∷ exports) none = by (bytes_eq n x.name) refl none (not_named n exports) where
-  by : (b : Bool) → bytes_eq n x.name ≡ b → cond b (Some x.target) (target_named n exports) ≡ None → (target_named n exports ≡ None → All (λ e. n ≢ e.name) exports) → All (λ e. n ≢ e.name) (x ∷ exports)
+  by : (b : Bool) → bytes_eq n x.name ≡ b → cond b (Some x.target) (target_named n exports) ≡ None → (target_named n exports ≡ None → All (λ e. n ≢ e.name) exports)
+      → All (λ e. n ≢ e.name) (x ∷ exports)
   by true p e later = absurd cc
   by false p e later =
       All-cons (λ (e : Export). n ≢ e.name) x exports
@@ -161,7 +163,8 @@ next_export s xs i d less =
     ∙ ap (λ (es : List Export). kept_exports s es) (sym (map_more export_of xs i d less))
 
 -- the names before a place differ from the one there
-pub names_before : (xs : List item.Export) (i : ℕ) (d : item.Export) → i < length xs → NamesDiffer (map export_of xs) → All (λ e. e.name ≢ (get_or xs i d).name.now) (map export_of (take i xs))
+pub names_before : (xs : List item.Export) (i : ℕ) (d : item.Export) → i < length xs → NamesDiffer (map export_of xs)
+    → All (λ e. e.name ≢ (get_or xs i d).name.now) (map export_of (take i xs))
 names_before xs i d less differ k d' within same =
     let size = length-map (take i xs) export_of in
     let upto = length-take-le i xs (omega (arith, less)) in
@@ -172,7 +175,8 @@ names_before xs i d less differ k d' within same =
     differ k i d' here (omega (arith, less, all)) (ap (λ (e : Export). e.name) (sym read) ∙ same ∙ ap (λ (e : Export). e.name) (sym there))
 
 -- the next export's name in the output is new
-pub may_add : (s : Settings) (xs : List item.Export) (i : ℕ) (d : item.Export) (o : Option (Bor (List ℕ))) (entries : List Export) → i < length xs → DstsDiffer s.renames → NamesDiffer (map export_of xs)
+pub may_add : (s : Settings) (xs : List item.Export) (i : ℕ) (d : item.Export) (o : Option (Bor (List ℕ))) (entries : List Export) → i < length xs → DstsDiffer s.renames
+    → NamesDiffer (map export_of xs)
     → option_copied o ≡ kept_name s (get_or xs i d).name.now → entries ≡ kept_exports s (map export_of (take i xs)) → IfSome o (λ n. target_named n.now entries ≡ None)
 may_add s xs i d None entries less differ names asked so_far = tt
 may_add s xs i d (Some n) entries less differ names asked so_far =

@@ -5,3 +5,4 @@ pub mod WholeLemmas
 pub mod TreeLemmas
 pub mod RisingLemmas
 pub mod RefLemmas
+pub mod SettingsLemmas

@@ -1,5 +1,6 @@
 -- Look-ups by name: in maps, and in the lists of exports and renames.
-use Rattle.std.proofs.Common.{◌≡◌, ℕ, ◌+◌, ◌-◌, ◌<◌, List, [], ◌∷◌, ◌++◌, length, get_or, drop, map, Option, Some, None, Bool, true, false, cond, HashMap, HashSet, Bor, String, inl, inr, refl, sym, ap, subst, ◌∙◌, arith, drop-cons, add-one}
+use Rattle.std.proofs.Common.{◌≡◌, ℕ, ◌+◌, ◌-◌, ◌<◌, List, [], ◌∷◌, ◌++◌, length, get_or, drop, map, Option, Some, None, Bool, true, false, cond, HashMap, HashSet, Bor, String}
+use Rattle.std.proofs.Common.{inl, inr, refl, sym, ap, subst, ◌∙◌, arith, drop-cons, add-one}
 use Rattle.std.specs.Prelude.{◌||◌, ◌⊎◌}
 use Rattle.std.specs.HashSet.{contains_by}
 use Rattle.std.specs.HashMap.{UpdatesBy, get_by}
@@ -77,7 +78,8 @@ renames-split xs done rename less read =
     let split = drop_before xs (length xs - 1 - done) (length xs - done) rename (omega (arith, less)) (omega (arith, less)) in
     ap (λ (r : Rename). r ∷ drop (length xs - done) xs) read ∙ sym (ap (λ (k : ℕ). drop k xs) place ∙ split)
 
-pub new_names_step : {S : Type 0} (xs : List Rename) (m n : HashMap (Bor (List ℕ)) (Bor (List ℕ)) S) (done : ℕ) (rename : Rename) (key : List ℕ) (dst : Bor (List ℕ)) → done < length xs
+pub new_names_step : {S : Type 0} (xs : List Rename) (m n : HashMap (Bor (List ℕ)) (Bor (List ℕ)) S) (done : ℕ) (rename : Rename) (key : List ℕ) (dst : Bor (List ℕ))
+    → done < length xs
     → rename ≡ get_or xs (length xs - 1 - done) rename → HasNewNames m (drop (length xs - done) xs) → key ≡ rename.src → dst.now ≡ rename.dst
     → UpdatesBy (λ x y. bytes_eq x.now y.now) (λ k. bytes_eq key k.now) m n (Some dst) → HasNewNames n (drop (length xs - (done + 1)) xs)
 new_names_step xs m n done rename key dst less read has from same updates =
@@ -101,7 +103,8 @@ given_step xs m n done rename key less read has from updates q =
 
 -- ---- the faults of renames
 
-module _ (s : Settings) (exports : List Export) (renames : List Rename) (i : ℕ) (rename : Rename) (t : Option ExportTarget) (src : List ℕ) (asked : Option ExportFault) (less : i < length renames)
+module _ (s : Settings) (exports : List Export) (renames : List Rename) (i : ℕ) (rename : Rename) (t : Option ExportTarget) (src : List ℕ) (asked : Option ExportFault) (less : i
+    < length renames)
     (read : rename ≡ get_or renames i rename) (so_far : first_misnamed s exports (drop i renames) ≡ asked) (from : src ≡ rename.src) (found : t ≡ target_named src exports) where
   next-rename : or_next (misnamed_at s src t) (first_misnamed s exports (drop (i + 1) renames)) ≡ asked
   next-rename =
@@ -120,7 +123,8 @@ module _ (s : Settings) (exports : List Export) (renames : List Rename) (i : ℕ
 
 -- ---- the kept exports
 
-pub found_by_name : {A : Type 0} (name : List ℕ) (entries : List (String A × ExportTarget)) → lookup (λ k. bytes_eq name (string_bytes k)) entries ≡ target_named name (exports_in entries)
+pub found_by_name : {A : Type 0} (name : List ℕ) (entries : List (String A × ExportTarget))
+    → lookup (λ k. bytes_eq name (string_bytes k)) entries ≡ target_named name (exports_in entries)
 found_by_name name [] = refl
 found_by_name name (e ∷ entries) = ap (λ (o : Option ExportTarget). cond (bytes_eq name (string_bytes e.0)) (Some e.1) o) (found_by_name name entries)
 
@@ -129,7 +133,8 @@ exports-append [] ys = refl
 exports-append (x ∷ xs) ys = ap (λ (es : List Export). record { name = string_bytes x.0; target = x.1 } ∷ es) (exports-append xs ys)
 
 -- an export under a new name goes last
-pub added_export : {A S : Type 0} (m : IndexMap (String A) ExportTarget S) (key : String A) (target : ExportTarget) (name : List ℕ) (entries : List (String A × ExportTarget)) (old : List Export)
+pub added_export : {A S : Type 0} (m : IndexMap (String A) ExportTarget S) (key : String A) (target : ExportTarget) (name : List ℕ) (entries : List (String A × ExportTarget))
+    (old : List Export)
     → string_bytes key ≡ name → exports_in m.entries ≡ old → target_named name old ≡ None → entries ≡ insert_entry string_eq m.entries key target
     → exports_in entries ≡ old ++ record { name = name; target = target } ∷ []
 added_export m key target name entries old named listed absent inserted =

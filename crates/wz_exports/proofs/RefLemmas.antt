@@ -1,5 +1,6 @@
 -- Sets of functions, and what is added to them.
-use Rattle.std.proofs.Common.{◌≡◌, ℕ, ◌+◌, ◌<◌, ◌≤◌, List, [], ◌∷◌, ◌++◌, length, Bool, true, false, cond, refl, sym, ap, subst, ◌∙◌, take, get_or, map, ◌==◌, append-nil, not, filter, slice_get, Option, Some, None, inl, inr, unwrap_or, arith}
+use Rattle.std.proofs.Common.{◌≡◌, ℕ, ◌+◌, ◌<◌, ◌≤◌, List, [], ◌∷◌, ◌++◌, length, Bool, true, false, cond, refl, sym, ap, subst, ◌∙◌, take, get_or, map, ◌==◌, append-nil, not}
+use Rattle.std.proofs.Common.{filter, slice_get, Option, Some, None, inl, inr, unwrap_or, arith}
 use Rattle.std.specs.List.Sorted.{IsStrictlyIncreasing}
 use Rattle.std.proofs.lemmas.Option.{slice_get_cases}
 use Rattle.wz_types.specs.declared.value.Value.{Value}
@@ -178,7 +179,8 @@ module _ (m : Module) (r : RecordedState) (k : KeptExports) where
 
   -- what is named elsewhere
   pub named_elsewhere : (none first second now : List ℕ) (elements : List Elem) (values : List Value) → none ≡ [] → elements ≡ m.elements → values ≡ r.globals
-      → AddsRefs none first (flat_map segment_refs elements) → AddsRefs first second (flat_map (λ e. target_refs e.target) k.entries) → AddsRefs second now (flat_map value_refs values)
+      → AddsRefs none first (flat_map segment_refs elements) → AddsRefs first second (flat_map (λ e. target_refs e.target) k.entries)
+      → AddsRefs second now (flat_map value_refs values)
       → (f : ℕ) → is_among f now ≡ is_among f (refs_elsewhere m r k)
   named_elsewhere none first second now elements values empty same read segments exports globals f =
       let exported = flat_map (λ (e : Export). target_refs e.target) k.entries in
@@ -189,7 +191,8 @@ module _ (m : Module) (r : RecordedState) (k : KeptExports) where
       ∙ ap (λ (vs : List Value). is_among f (flat_map segment_refs m.elements ++ (exported ++ flat_map value_refs vs))) read
 
   -- those that others don't have
-  pub left_over : (others : BTreeSet ℕ) (named functions : List ℕ) → named ≡ rising (flat_map body_refs m.bodies) → ((f : ℕ) → is_among f others.keys ≡ is_among f (refs_elsewhere m r k))
+  pub left_over : (others : BTreeSet ℕ) (named functions : List ℕ) → named ≡ rising (flat_map body_refs m.bodies) → ((f : ℕ)
+      → is_among f others.keys ≡ is_among f (refs_elsewhere m r k))
       → functions ≡ filter (λ f. not (contains nat_cmp others f)) named → functions ≡ undeclared_functions m r k
   left_over others named functions once elsewhere made =
       made

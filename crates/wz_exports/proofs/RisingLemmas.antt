@@ -100,7 +100,8 @@ has-number f (n ∷ ns) k = by (nat_lt k n) (nat_lt n k) refl refl (has-number f
 pub keeps-rising : (low : ℕ) (ns : List ℕ) (k : ℕ) → AtLeast low ns → low ≤ k → AtLeast low (with_number ns k)
 keeps-rising low [] k rises more = (more, tt)
 keeps-rising low (n ∷ ns) k rises more = by (nat_lt k n) (nat_lt n k) refl refl (keeps-rising (n + 1) ns k rises.1) where
-  by : (s t : Bool) → nat_lt k n ≡ s → nat_lt n k ≡ t → (n + 1 ≤ k → AtLeast (n + 1) (with_number ns k)) → AtLeast low (cond s (k ∷ n ∷ ns) (cond t (n ∷ with_number ns k) (n ∷ ns)))
+  by : (s t : Bool) → nat_lt k n ≡ s → nat_lt n k ≡ t → (n + 1 ≤ k → AtLeast (n + 1) (with_number ns k))
+      → AtLeast low (cond s (k ∷ n ∷ ns) (cond t (n ∷ with_number ns k) (n ∷ ns)))
   by true t p q later = let h = ltb-true k n p in (more, (omega (arith, h), rises.1))
   by false true p q later = let h = ltb-true n k q in (rises.0, later (omega (arith, h)))
   by false false p q later = rises

@@ -1,5 +1,6 @@
 -- The index space of functions, walked import by import.
-use Rattle.std.proofs.Common.{◌≡◌, ℕ, zero, suc, ◌+◌, ◌-◌, ◌<◌, ◌≤◌, List, [], ◌∷◌, ◌++◌, length, get_or, slice_get, drop, map, Option, Some, None, refl, sym, ap, ◌∙◌, arith, append_assoc, Bor}
+use Rattle.std.proofs.Common.{◌≡◌, ℕ, zero, suc, ◌+◌, ◌-◌, ◌<◌, ◌≤◌, List, [], ◌∷◌, ◌++◌, length, get_or, slice_get, drop, map, Option, Some, None, refl, sym, ap, ◌∙◌, arith}
+use Rattle.std.proofs.Common.{append_assoc, Bor}
 use Rattle.std.specs.Prelude.{IfSome, MatchOption, option_copied}
 use Rattle.std.specs.List.{HoldsAt}
 use Rattle.std.proofs.lemmas.Option.{slice_get_past, slice_get-get_or}
@@ -52,7 +53,8 @@ module _ (imports : List item.Import) (i : ℕ) (d : item.Import) (own : List �
       ∙ sym (ap (λ (first : List ℕ). slice_get (first ++ (signatures (drop (i + 1) imports) ++ own)) left) (no-function (get_or imports i d).kind other))
       ∙ opened
 
-pub own_left : (imports : List item.Import) (i : ℕ) (own : List ℕ) (left : ℕ) (asked : Option ℕ) → length imports ≤ i → slice_get (signatures (drop i imports) ++ own) left ≡ asked → slice_get own left ≡ asked
+pub own_left : (imports : List item.Import) (i : ℕ) (own : List ℕ) (left : ℕ) (asked : Option ℕ) → length imports ≤ i
+    → slice_get (signatures (drop i imports) ++ own) left ≡ asked → slice_get own left ≡ asked
 own_left imports i own left asked past so_far = sym (ap (λ (is : List item.Import). slice_get (signatures is ++ own) left) (drop_all i imports past)) ∙ so_far
 
 -- what is read at a place

@@ -5,3 +5,4 @@ pub mod Answers
 pub mod Listed
 pub mod Undeclared
 pub mod Gathered
+pub mod Laws

@@ -1,6 +1,7 @@
 //! Which exports are kept, and which functions run.
 
-ghost use Rattle.std.specs.Prelude.{◌≡◌, ◌≢◌, ◌⊎◌, List, ℕ, [], ◌++◌, None, IfSome, AllPairs, map, option_copied, Ok, Err, Some, IfOk, IfErr, OnOk};
+ghost use Rattle.std.specs.Prelude.{◌≡◌, ◌≢◌, ◌⊎◌, List, ℕ, [], ◌++◌, None, IfSome, AllPairs, map};
+ghost use Rattle.std.specs.Prelude.{option_copied, Ok, Err, Some, IfOk, IfErr, OnOk};
 ghost use Rattle.std.specs.HashSet.{contains_by};
 ghost use Rattle.std.specs.Str.{bytes_eq};
 ghost use Rattle.wz_module.specs.Meaning.{module_of};
@@ -8,7 +9,8 @@ ghost use Rattle.wz_module.specs.Views.{export_of};
 ghost use Rattle.wz_words.specs.Settings.{settings_of};
 ghost use Rattle.wz_words.specs.Faults.{renames_to};
 ghost use Rattle.wz_exports.specs.Names.{target_named};
-ghost use Rattle.wz_exports.specs.Kept.{function_named, reactor_in, leaves, kept_name, kept_exports, under_name};
+ghost use Rattle.wz_exports.specs.Kept.{function_named, reactor_in, leaves, kept_name};
+ghost use Rattle.wz_exports.specs.Kept.{kept_exports, under_name};
 ghost use Rattle.wz_exports.specs.Kept.{misnamed_at, first_misnamed, kept};
 ghost use Rattle.wz_exports.specs.Answers.{Answers, Refuses, HasTargets, HasNewNames};
 ghost use Rattle.wz_exports.specs.declared.fault.ExportFault.TheVariants.{NoMemory};
@@ -131,7 +133,8 @@ fn kept_name<'a>(
 ) -> Option<&'a str>
     requires names { HasNewNames names.now (settings_of settings.now).renames }
     requires given { (q : List ℕ) →
-        contains_by (λ k. bytes_eq q k.now) given.now ≡ renames_to q (settings_of settings.now).renames }
+        contains_by (λ k. bytes_eq q k.now) given.now
+        ≡ renames_to q (settings_of settings.now).renames }
     ensures { option_copied result ≡ kept_name (settings_of settings.now) name.now }
 {
     if leaves(settings, name) {

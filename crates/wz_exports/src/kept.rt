@@ -1,6 +1,7 @@
 //! The kept exports.
 
-ghost use Rattle.std.specs.Prelude.{◌≡◌, ◌++◌, ◌∷◌, [], length, slice_get, option_map, Option, None, IsNone, IfSome, OnOk};
+ghost use Rattle.std.specs.Prelude.{◌≡◌, ◌++◌, ◌∷◌, [], length, slice_get, option_map, Option};
+ghost use Rattle.std.specs.Prelude.{None, IsNone, IfSome, OnOk};
 ghost use Rattle.std.specs.List.{All};
 ghost use Rattle.wz_exports.specs.Names.{target_named};
 

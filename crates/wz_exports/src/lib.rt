@@ -7,6 +7,7 @@
 mod fault;
 mod keeping;
 mod kept;
+pub mod laws;
 mod names;
 mod references;
 mod signatures;

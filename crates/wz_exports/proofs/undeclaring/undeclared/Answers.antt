@@ -12,7 +12,8 @@ returns c =
     let k = c.args.kept.now in
     let others = c.add_values.new.self.functions in
     let named = c.add_bodies.new.self.functions.keys in
-    let once = named_once m r k c.bodies.result.now c.new-named.result.functions.keys named c.new-named.ensures c.bodies.ensures c.in_ok-add_bodies.ensures c.without.ensures.rises in
+    let once = named_once m r k c.bodies.result.now c.new-named.result.functions.keys named c.new-named.ensures c.bodies.ensures c.in_ok-add_bodies.ensures
+    c.without.ensures.rises in
     let elsewhere = named_elsewhere m r k c.new-elsewhere.result.functions.keys c.add_segments.new.self.functions.keys c.add_exports.new.self.functions.keys others.keys
     (map elem_of c.elements.result.now) c.globals.result.now c.new-elsewhere.ensures c.elements.ensures c.globals.ensures
     c.in_ok-add_segments.ensures c.in_ok-add_exports.ensures c.in_ok-add_values.ensures in

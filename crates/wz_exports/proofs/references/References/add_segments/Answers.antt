@@ -6,4 +6,5 @@ use Rattle.wz_exports.proofs.references.References.add_segments.Goals as goal
 
 pub returns : goal.returns
 returns c =
-    adds_mapped segment_refs elem_of c.args.segments.now c.loop-segment.segment-index c.args.self.now.functions.keys c.loop-segment.self.functions.keys (omega arith) c.loop-segment.invariant
+    adds_mapped segment_refs elem_of c.args.segments.now c.loop-segment.segment-index c.args.self.now.functions.keys c.loop-segment.self.functions.keys (omega arith)
+    c.loop-segment.invariant
