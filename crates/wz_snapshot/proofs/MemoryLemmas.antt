@@ -1,5 +1,6 @@
 -- The ranges of several memories, one memory after the other.
-use Rattle.std.proofs.Common.{◌≡◌, ℕ, suc, ◌+◌, ◌/◌, ◌<◌, ◌≤◌, List, ◌∷◌, ◌++◌, length, get_or, slice_get, drop, Option, Some, inl, inr, sym, ap, ◌∙◌, arith, append_assoc, drop-cons, add-one}
+use Rattle.std.proofs.Common.{◌≡◌, ℕ, suc, ◌+◌, ◌/◌, ◌<◌, ◌≤◌, List, ◌∷◌, ◌++◌, length, get_or, slice_get, drop, map, [], Option, Some, inl, inr, sym, ap, ◌∙◌, arith, append_assoc}
+use Rattle.std.proofs.Common.{drop-cons, add-one}
 use Rattle.std.proofs.lemmas.List.Sums.{get_or-le-sum_by}
 use Rattle.std.proofs.lemmas.Option.{slice_get_cases}
 use Rattle.std.specs.Option.{option_map}
@@ -38,3 +39,10 @@ next_ranges limit i memories bytes done now all so_far read more =
     ∙ append_assoc done (chosen_in limit i m.0.bytes) rest
     ∙ ap (λ (ms : List Memory). done ++ chosen_from limit i ms) (sym split)
     ∙ so_far
+
+-- one memory has its own pages alone
+pub one_memory : (memories : List Memory) (pages : List ℕ) (only : ℕ) → pages ≡ map pages_of memories → length pages ≡ 1 → only ≡ get_or pages 0 only
+    → only ≤ 16384 → pages_together memories ≤ 16384
+one_memory [] pages only made one read few = let e = ap length made in absurd (omega (arith, e, one))
+one_memory (m ∷ []) pages only made one read few = let e = ap (λ (ps : List ℕ). get_or ps 0 only) made in omega (arith, e, read, few)
+one_memory (m ∷ n ∷ memories) pages only made one read few = let e = ap length made in absurd (omega (arith, e, one))

@@ -14,3 +14,6 @@ mod taking;
 pub use recorded::Recorded;
 pub use segment::ChosenSegment;
 pub use taking::snapshot;
+
+#[cfg(test)]
+mod tests;

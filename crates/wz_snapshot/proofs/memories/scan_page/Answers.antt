@@ -21,5 +21,6 @@ returns-clause-scanned g c =
     on_true c.read_into-within.result (c.read_into-within.ensures.within.1 within) c.read_into-within.ensures.copied
     ∙ ap (λ (at : ℕ). part memory at (length c.args.buffer.now)) c.from.ensures
     ∙ ap (λ (count : ℕ). part memory (c.args.page * 65536) count) c.requires.buffer in
-    on_ok c.push.result (λ together. passes_shown memory (c.args.page * 65536) c.args.scan.now c.requires.scanned 65536 ((c.args.page + 1) * 65536) c.push.new.self (omega arith) c.requires.there
+    on_ok c.push.result (λ together. passes_shown memory (c.args.page * 65536) c.args.scan.now c.requires.scanned 65536 ((c.args.page + 1) * 65536) c.push.new.self (omega arith)
+    c.requires.there
     (λ shown found. together shown found ∙ ap (λ (bytes : List ℕ). found_in (followed_at shown (c.args.page * 65536) bytes)) read)) c.push.ensures.together

@@ -9,6 +9,7 @@ loop-at-preserved g c =
     let xs = c.args.store.now.memories in
     let i = c.loop-at.at in
     elim c.match-memory_type.branch [
-      | in-Some+in_ok-push w ↦ read_one memory_type_of (λ kind. kind.limits.min) xs i w.in-Some.kind c.loop-at.pages.items c.match-memory_type.pages.items c.loop-at.invariant w.in-Some.ensures (rw w.pages-is w.in_ok-push.ensures.items)
+      | in-Some+in_ok-push w ↦ read_one memory_type_of (λ kind. kind.limits.min) xs i w.in-Some.kind c.loop-at.pages.items c.match-memory_type.pages.items c.loop-at.invariant
+          w.in-Some.ensures (rw w.pages-is w.in_ok-push.ensures.items)
       | in_default w ↦ read_none memory_type_of xs i w.in_default.ensures (omega arith)
     ]
