@@ -1,3 +1,4 @@
 pub mod ListLemmas
 pub mod ScanLemmas
 pub mod MemoryLemmas
+pub mod LawLemmas

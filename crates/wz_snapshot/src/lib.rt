@@ -5,6 +5,7 @@
 //! data segments are empty. It reads each page of a memory once, untouched ones not at all.
 #![tactic(auto)]
 
+pub mod laws;
 mod memories;
 mod parts;
 mod recorded;
