@@ -125,7 +125,7 @@ fn check_renames(
 }
 
 /// The name that the export of a name has in the output, if it stays.
-fn kept_name<'a>(
+pub(crate) fn kept_name<'a>(
     settings: &Settings,
     names: &NewNames<'a>,
     given: &HashSet<&'a str>,

@@ -17,3 +17,6 @@ pub use fault::ExportFault;
 pub use keeping::keep;
 pub use kept::Kept;
 pub use undeclaring::undeclared;
+
+#[cfg(test)]
+mod tests;
