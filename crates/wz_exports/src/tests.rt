@@ -1,14 +1,23 @@
-//! The names that exports have in the output.
+//! The names that exports have in the output, and a module without exports.
+
+ghost use Rattle.std.specs.Prelude.{◌≡◌, ◌≢◌, [], AllPairs, IfOk};
+ghost use Rattle.wz_module.specs.Meaning.{module_of};
+ghost use Rattle.wz_words.specs.Settings.{settings_of};
 
 use crate::keeping::kept_name;
 use crate::names::{names_given, new_names};
+use crate::{ExportFault, keep, laws};
 use std::alloc::Global;
 use std::process::Abort;
 use std::test::Fail;
+use wz_module::{Module, ModuleParts};
 use wz_types::Text;
 use wz_words::{Settings, read_words};
 
-fn settings(alloc: Global, words: &[&str]) -> Result<Settings, Fail> {
+fn settings(alloc: Global, words: &[&str]) -> Result<Settings, Fail>
+    ensures { IfOk result (λ s. AllPairs (λ x y. x.dst ≢ y.dst) (settings_of s).renames) }
+{
+    laws::renames_differ();
     let mut texts = Vec::new(alloc);
     for word in words {
         texts.push(Text::new(alloc, word)?)?;
@@ -63,4 +72,37 @@ fn exports_leave_stay_or_are_renamed(rt: HostRuntime) -> Result<(), Fail> {
     has_name(&rt, alloc, &["-r", "_start=main2"], "main2", Some("_start"))?;
     has_name(&rt, alloc, &["-r", "a=b", "-r", "b=a"], "a", Some("b"))?;
     has_name(&rt, alloc, &["-r", "a=b", "-r", "b=a"], "b", Some("a"))
+}
+
+fn empty_module<'a>(alloc: Global) -> Module<'a>
+    ensures { (module_of result).exports ≡ [] }
+{
+    Module::from_parts(ModuleParts {
+        sections: Vec::new(alloc),
+        types: Vec::new(alloc),
+        imports: Vec::new(alloc),
+        functions: Vec::new(alloc),
+        tables: Vec::new(alloc),
+        memories: Vec::new(alloc),
+        globals: Vec::new(alloc),
+        exports: Vec::new(alloc),
+        start: None,
+        elements: Vec::new(alloc),
+        data_count: None,
+        bodies: Vec::new(alloc),
+        datas: Vec::new(alloc),
+    })
+}
+
+#[test]
+fn a_module_without_exports_has_no_init(rt: HostRuntime) -> Result<(), Fail> {
+    let module = empty_module(rt.alloc());
+    let settings = settings(rt.alloc(), &["-f", "go"])?;
+    let missing = match keep(rt.alloc(), &module, &settings) {
+        Ok(_kept) => false,
+        Err(ExportFault::NoInit { name }) => name.as_str() == "go",
+        Err(_fault) => false,
+    };
+    assert!(rt; missing);
+    Ok(())
 }
