@@ -1,6 +1,6 @@
 -- Rising numbers: each once, from the lowest on.
 use Rattle.std.proofs.Common.{◌≡◌, ℕ, ◌+◌, ◌<◌, ◌≤◌, List, [], ◌∷◌, Bool, true, false, cond, refl, sym, ap, subst, ◌∙◌, arith, ◌==◌}
-use Rattle.std.specs.Prelude.{◌||◌, nat_lt}
+use Rattle.std.specs.Prelude.{◌||◌, nat_lt, ◌&&◌, filter, not, IsTrue}
 use Rattle.std.specs.List.{All, AllPairs}
 use Rattle.std.specs.List.Sorted.{IsStrictlyIncreasing}
 use Rattle.std.proofs.lemmas.Bool.{eqb-true, eq-eqb, ltb-true, ltb-false}
@@ -113,3 +113,33 @@ rises (n ∷ ns) = keeps-rising 0 (rising ns) n (rises ns) (omega arith)
 pub has-rising : (f : ℕ) (ns : List ℕ) → is_among f (rising ns) ≡ is_among f ns
 has-rising f [] = refl
 has-rising f (n ∷ ns) = has-number f (rising ns) n ∙ ap (λ (b : Bool). (f == n) || b) (has-rising f ns)
+
+-- ---- what is left of a list
+
+and-false : (b : Bool) → (b && false) ≡ false
+and-false true = refl
+and-false false = refl
+
+pub among-filter : (p : ℕ → Bool) (f : ℕ) (ns : List ℕ) → is_among f (filter p ns) ≡ (is_among f ns && p f)
+among-filter p f [] = refl
+among-filter p f (n ∷ ns) = by (p n) (f == n) refl refl (among-filter p f ns) where
+  by : (s t : Bool) → p n ≡ s → (f == n) ≡ t → is_among f (filter p ns) ≡ (is_among f ns && p f)
+      → is_among f (cond s (n ∷ filter p ns) (filter p ns)) ≡ (((f == n) || is_among f ns) && p f)
+  by true true s t later =
+      let passes : p f ≡ true = ap p (eqb-true f n t) ∙ s in
+      ap (λ (b : Bool). b || is_among f (filter p ns)) t ∙ sym (ap (λ (b : Bool). (b || is_among f ns) && p f) t ∙ passes)
+  by true false s t later = ap (λ (b : Bool). b || is_among f (filter p ns)) t ∙ later ∙ sym (ap (λ (b : Bool). (b || is_among f ns) && p f) t)
+  by false true s t later =
+      let fails : p f ≡ false = ap p (eqb-true f n t) ∙ s in
+      later ∙ ap (λ (b : Bool). is_among f ns && b) fails ∙ and-false (is_among f ns) ∙ sym (ap (λ (b : Bool). (b || is_among f ns) && p f) t ∙ fails)
+  by false false s t later = later ∙ sym (ap (λ (b : Bool). (b || is_among f ns) && p f) t)
+
+-- a number of a list is one of others, or is left of the list without these
+pub either-among : (others ns : List ℕ) (f : ℕ) → IsTrue (is_among f ns) → IsTrue (is_among f others || is_among f (filter (λ n. not (is_among n others)) (rising ns)))
+either-among others ns f there = by (is_among f others) refl where
+  by : (b : Bool) → is_among f others ≡ b → IsTrue (b || is_among f (filter (λ n. not (is_among n others)) (rising ns)))
+  by true e = refl
+  by false e =
+      among-filter (λ n. not (is_among n others)) f (rising ns)
+      ∙ ap (λ (b : Bool). b && not (is_among f others)) (has-rising f ns ∙ there)
+      ∙ ap (λ (b : Bool). not b) e
