@@ -4,7 +4,8 @@
 
 ghost use Rattle.wz_exports.specs.Laws.{NewNamesDiffer, RenamedDiffer, RefsAreFound};
 
-/// The renames of settings that were read differ in their new names, and in the exports that they rename.
+/// The renames of settings that were read differ in their new names, and in the exports that
+/// they rename.
 pub fn renames_differ()
     ensures to { NewNamesDiffer }
     ensures from { RenamedDiffer }
