@@ -1,0 +1,8 @@
+pub mod NameLemmas
+pub mod SignatureLemmas
+pub mod KeptLemmas
+pub mod WholeLemmas
+pub mod TreeLemmas
+pub mod RisingLemmas
+pub mod RefLemmas
+pub mod SettingsLemmas

@@ -1,0 +1,248 @@
+-- The references that a body's tree makes are those of its instructions, block by block.
+use Rattle.std.proofs.Common.{◌≡◌, ℕ, zero, suc, ◌+◌, ◌<◌, ◌≤◌, List, [], ◌∷◌, ◌++◌, length, Option, Some, None, ◌⊎◌, inl, inr, Bool, true, false, IsTrue, cond, refl, sym, ap}
+use Rattle.std.proofs.Common.{subst, ◌∙◌, append-nil, append_assoc, unwrap_or, arith, ◌==◌}
+use Rattle.std.specs.Prelude.{◌||◌}
+use Rattle.std.specs.List.{flat_map}
+use Rattle.std.proofs.lemmas.List.Folds.{list_any-append}
+use Rattle.std.proofs.lemmas.List.Concat.{flat_map-append}
+use Rattle.std.proofs.lemmas.Option.{slice_get_past}
+use Rattle.std.proofs.lemmas.Bool.{lt-ltb, eqb-true}
+use Rattle.wz_types.specs.declared.types.ValType.{ValType}
+use Rattle.wz_code.specs.declared.instr.Instr.{Instr}
+use Rattle.wz_code.specs.declared.instr.Instr.TheVariants.{Block, Loop, If}
+use Rattle.wz_code.specs.BodyParts.{Blocks, BodyParts, block_at}
+use Rattle.wz_code.specs.BlockRule.{Every, named, Names, times, namings, all_namings, BlockRule}
+use Rattle.wz_code.specs.Trees.{Code, leaf_of, headed, expand, tree_of}
+use Rattle.wz_code.specs.Laws.{TreeOfBlock}
+use Rattle.wz_code.specs.Walking.{in_order}
+use Rattle.wz_exports.specs.Undeclared.{is_among, ref_of, refs_of}
+
+-- ---- numbers in lists
+
+-- a list has the number
+abbrev pub Has : ℕ → List ℕ → Type 0
+Has f xs = IsTrue (is_among f xs)
+
+or-cases : (a b : Bool) → IsTrue (a || b) → IsTrue a ⊎ IsTrue b
+or-cases true b h = inl h
+or-cases false b h = inr h
+
+or-first : (a b : Bool) → IsTrue a → IsTrue (a || b)
+or-first true b h = h
+or-first false b h = absurd cc
+
+or-second : (a b : Bool) → IsTrue b → IsTrue (a || b)
+or-second true b h = refl
+or-second false b h = h
+
+pub has-append : (f : ℕ) (xs ys : List ℕ) → is_among f (xs ++ ys) ≡ (is_among f xs || is_among f ys)
+has-append f xs ys = list_any-append (λ other. f == other) xs ys
+
+pub has-cases : (f : ℕ) (xs ys : List ℕ) → Has f (xs ++ ys) → Has f xs ⊎ Has f ys
+has-cases f xs ys h = or-cases (is_among f xs) (is_among f ys) (subst (λ (b : Bool). IsTrue b) (has-append f xs ys) h)
+
+has-first : (f : ℕ) (xs ys : List ℕ) → Has f xs → Has f (xs ++ ys)
+has-first f xs ys h = subst (λ (b : Bool). IsTrue b) (sym (has-append f xs ys)) (or-first (is_among f xs) (is_among f ys) h)
+
+has-second : (f : ℕ) (xs ys : List ℕ) → Has f ys → Has f (xs ++ ys)
+has-second f xs ys h = subst (λ (b : Bool). IsTrue b) (sym (has-append f xs ys)) (or-second (is_among f xs) (is_among f ys) h)
+
+other_number : (k : ℕ) → 0 < k → times k (0 ∷ []) ≡ 0
+other_number zero more = absurd (omega (arith, more))
+other_number (suc k) more = by (0 == suc k) refl where
+  by : (b : Bool) → (0 == suc k) ≡ b → cond b 1 0 + 0 ≡ 0
+  by true same = let e : 0 ≡ suc k = eqb-true 0 (suc k) same in absurd (omega (arith, e))
+  by false same = omega arith
+
+-- ---- one instruction
+
+-- what an instruction and what follows it refer to
+headed-refers : (labels : List ℕ) (types : List ValType) (inner : ℕ → Code) (instr : Instr) (rest : Code)
+    → refs_of (headed (leaf_of labels types) inner instr rest) ≡ ref_of instr ++ (flat_map (λ k. refs_of (inner k)) (named instr) ++ refs_of rest)
+headed-refers labels types inner (Block shape body) rest = ap (λ (xs : List ℕ). xs ++ refs_of rest) (sym (append-nil (refs_of (inner body))))
+headed-refers labels types inner (Loop shape body) rest = ap (λ (xs : List ℕ). xs ++ refs_of rest) (sym (append-nil (refs_of (inner body))))
+headed-refers labels types inner (If shape first None) rest = ap (λ (xs : List ℕ). xs ++ refs_of rest) (sym (append-nil (refs_of (inner first))))
+headed-refers labels types inner (If shape first (Some second)) rest =
+    sym (append_assoc (refs_of (inner first)) (refs_of (inner second)) (refs_of rest))
+    ∙ ap (λ (xs : List ℕ). (refs_of (inner first) ++ xs) ++ refs_of rest) (sym (append-nil (refs_of (inner second))))
+headed-refers labels types inner instr rest = refl
+
+-- ---- the instructions of a block
+
+-- what a block's instructions refer to by themselves
+abbrev pub own_references : List Instr → List ℕ
+own_references code = flat_map ref_of code
+
+module _ (labels : List ℕ) (types : List ValType) (inner : ℕ → Code) (f : ℕ) where
+  -- the numbers of blocks that hold the function
+  abbrev Holds : ℕ → Type 0
+  Holds k = Has f (refs_of (inner k))
+
+  named-has : (Is : ℕ → Type 0) (ks : List ℕ) → Every Is ks → Has f (flat_map (λ k. refs_of (inner k)) ks) → (k : ℕ) × Is k × Holds k
+  named-has Is [] every h = absurd cc
+  named-has Is (k ∷ ks) every h =
+      elim (has-cases f (refs_of (inner k)) (flat_map (λ k. refs_of (inner k)) ks) h) [ inl here ↦ (k, every.0, here) | inr later ↦ named-has Is ks every.1 later ]
+
+  -- a reference of the tree is made by one of the instructions, or in a block that they name
+  tree-cases : (Is : ℕ → Type 0) (code : List Instr) → Names Is code → Has f (refs_of (expand (leaf_of labels types) inner code))
+      → Has f (own_references code) ⊎ ((k : ℕ) × Is k × Holds k)
+  tree-cases Is [] names h = absurd cc
+  tree-cases Is (instr ∷ code) names h =
+      let rest = expand (leaf_of labels types) inner code in
+      let inside = flat_map (λ k. refs_of (inner k)) (named instr) in
+      let split = subst (λ (xs : List ℕ). Has f xs) (headed-refers labels types inner instr rest) h in
+      let own : Has f (own_references code) → Has f (own_references (instr ∷ code)) = has-second f (ref_of instr) (own_references code) in
+      elim (has-cases f (ref_of instr) (inside ++ refs_of rest) split) [
+        | inl here ↦ inl (has-first f (ref_of instr) (own_references code) here)
+        | inr more ↦
+            elim (has-cases f inside (refs_of rest) more) [
+              | inl within ↦ inr (named-has Is (named instr) names.0 within)
+              | inr later ↦ elim (tree-cases Is code names.1 later) [ inl found ↦ inl (own found) | inr block ↦ inr block ]
+            ]
+      ]
+
+  -- the tree has the references of the instructions
+  own-in-tree : (code : List Instr) → Has f (own_references code) → Has f (refs_of (expand (leaf_of labels types) inner code))
+  own-in-tree [] h = h
+  own-in-tree (instr ∷ code) h =
+      let rest = expand (leaf_of labels types) inner code in
+      let inside = flat_map (λ k. refs_of (inner k)) (named instr) in
+      subst (λ (xs : List ℕ). Has f xs) (sym (headed-refers labels types inner instr rest))
+      (elim (has-cases f (ref_of instr) (own_references code) h) as (λ _. Has f (ref_of instr ++ (inside ++ refs_of rest))) [
+        | inl here ↦ has-first f (ref_of instr) (inside ++ refs_of rest) here
+        | inr later ↦ has-second f (ref_of instr) (inside ++ refs_of rest) (has-second f inside (refs_of rest) (own-in-tree code later))
+      ])
+
+  has-named : (k : ℕ) (ks : List ℕ) → 1 ≤ times k ks → Holds k → Has f (flat_map (λ k. refs_of (inner k)) ks)
+  has-named k [] some h = absurd (omega (arith, some))
+  has-named k (n ∷ ks) some h = by (n == k) refl some (λ few. has-named k ks few h) where
+    by : (b : Bool) → (n == k) ≡ b → 1 ≤ cond b 1 0 + times k ks → (1 ≤ times k ks → Has f (flat_map (λ k. refs_of (inner k)) ks))
+        → Has f (flat_map (λ k. refs_of (inner k)) (n ∷ ks))
+    by true same few later =
+        let e : n ≡ k = eqb-true n k same in
+        has-first f (refs_of (inner n)) (flat_map (λ k. refs_of (inner k)) ks) (subst (λ (j : ℕ). Holds j) (sym e) h)
+    by false same few later = has-second f (refs_of (inner n)) (flat_map (λ k. refs_of (inner k)) ks) (later (omega (arith, few)))
+
+  -- and those of each block that they name
+  named-in-tree : (k : ℕ) (code : List Instr) → 1 ≤ namings k code → Holds k → Has f (refs_of (expand (leaf_of labels types) inner code))
+  named-in-tree k [] some h = absurd (omega (arith, some))
+  named-in-tree k (instr ∷ code) some h =
+      let rest = expand (leaf_of labels types) inner code in
+      let inside = flat_map (λ k. refs_of (inner k)) (named instr) in
+      subst (λ (xs : List ℕ). Has f xs) (sym (headed-refers labels types inner instr rest))
+      (has-second f (ref_of instr) (inside ++ refs_of rest) (by (times k (named instr)) refl (λ few. named-in-tree k code few h))) where
+        by : (n : ℕ) → times k (named instr) ≡ n → (1 ≤ namings k code → Has f (refs_of (expand (leaf_of labels types) inner code)))
+            → Has f (flat_map (λ k. refs_of (inner k)) (named instr) ++ refs_of (expand (leaf_of labels types) inner code))
+        by zero none later =
+            has-second f (flat_map (λ k. refs_of (inner k)) (named instr)) (refs_of (expand (leaf_of labels types) inner code)) (later (omega (arith, some, none)))
+        by (suc n) here later =
+            has-first f (flat_map (λ k. refs_of (inner k)) (named instr)) (refs_of (expand (leaf_of labels types) inner code))
+            (has-named k (named instr) (omega (arith, here)) h)
+
+-- ---- which block names another
+
+every-named : (Is : ℕ → Type 0) (k : ℕ) (ks : List ℕ) → Every Is ks → 1 ≤ times k ks → Is k
+every-named Is k [] every some = absurd (omega (arith, some))
+every-named Is k (n ∷ ks) every some = by (n == k) refl some (λ few. every-named Is k ks every.1 few) where
+  by : (b : Bool) → (n == k) ≡ b → 1 ≤ cond b 1 0 + times k ks → (1 ≤ times k ks → Is k) → Is k
+  by true same few later = subst Is (eqb-true n k same) every.0
+  by false same few later = later (omega (arith, few))
+
+names-such : (Is : ℕ → Type 0) (k : ℕ) (code : List Instr) → Names Is code → 1 ≤ namings k code → Is k
+names-such Is k [] names some = absurd (omega (arith, some))
+names-such Is k (instr ∷ code) names some = by (times k (named instr)) refl (λ few. names-such Is k code names.1 few) where
+  by : (n : ℕ) → times k (named instr) ≡ n → (1 ≤ namings k code → Is k) → Is k
+  by zero none later = later (omega (arith, some, none))
+  by (suc n) here later = every-named Is k (named instr) names.0 (omega (arith, here))
+
+-- a block that is named is named in one of the blocks
+naming-block : (k : ℕ) (blocks : Blocks) → 1 ≤ all_namings k blocks → (j : ℕ) × (1 ≤ namings k (block_at blocks j))
+naming-block k [] some = absurd (omega (arith, some))
+naming-block k (block ∷ blocks) some = by (namings k block) refl (λ few. naming-block k blocks few) where
+  by : (n : ℕ) → namings k block ≡ n → (1 ≤ all_namings k blocks → (j : ℕ) × (1 ≤ namings k (block_at blocks j))) → (j : ℕ) × (1 ≤ namings k (block_at (block ∷ blocks) j))
+  by zero none later = let found = later (omega (arith, some, none)) in (suc found.0, found.1)
+  by (suc n) here later = (0, omega (arith, here))
+
+-- ---- all blocks
+
+abbrev all_own : Blocks → List ℕ
+all_own blocks = own_references (in_order blocks)
+
+flat-append : (xs ys : List Instr) → own_references (xs ++ ys) ≡ own_references xs ++ own_references ys
+flat-append xs ys = flat_map-append ref_of xs ys
+
+own-in-all : (f : ℕ) (blocks : Blocks) (k : ℕ) → Has f (own_references (block_at blocks k)) → Has f (all_own blocks)
+own-in-all f [] k h = absurd cc
+own-in-all f (block ∷ blocks) zero h =
+    subst (λ (xs : List ℕ). Has f xs) (sym (flat-append block (in_order blocks))) (has-first f (own_references block) (all_own blocks) h)
+own-in-all f (block ∷ blocks) (suc k) h =
+    subst (λ (xs : List ℕ). Has f xs) (sym (flat-append block (in_order blocks))) (has-second f (own_references block) (all_own blocks) (own-in-all f blocks k h))
+
+block-of : (f : ℕ) (blocks : Blocks) → Has f (all_own blocks) → (k : ℕ) × (k < length blocks) × Has f (own_references (block_at blocks k))
+block-of f [] h = absurd cc
+block-of f (block ∷ blocks) h =
+    elim (has-cases f (own_references block) (all_own blocks) (subst (λ (xs : List ℕ). Has f xs) (flat-append block (in_order blocks)) h)) [
+      | inl here ↦ (0, omega arith, here)
+      | inr later ↦ let found = block-of f blocks later in (suc found.0, omega (arith, found.1), found.2)
+    ]
+
+module _ (law : TreeOfBlock) (body : BodyParts) (rule : BlockRule body) (f : ℕ) where
+  abbrev At : ℕ → Type 0
+  At k = Has f (refs_of (tree_of body k))
+
+  opened : (k : ℕ) → At k → Has f (refs_of (expand (leaf_of body.labels body.types) (λ j. tree_of body j) (block_at body.blocks k)))
+  opened k h = subst (λ (code : Code). Has f (refs_of code)) (law body k rule.names_rise) h
+
+  closed : (k : ℕ) → Has f (refs_of (expand (leaf_of body.labels body.types) (λ j. tree_of body j) (block_at body.blocks k))) → At k
+  closed k h = subst (λ (code : Code). Has f (refs_of code)) (sym (law body k rule.names_rise)) h
+
+  past-none : (k : ℕ) → length body.blocks ≤ k → Names (λ j. ⊥) (block_at body.blocks k)
+  past-none k past =
+      subst (λ (o : Option (List Instr)). Names (λ j. ⊥) (unwrap_or o [])) (sym (slice_get_past body.blocks k past)) tt
+
+  in-blocks : (n k : ℕ) → length body.blocks ≤ k + n → At k → Has f (all_own body.blocks)
+  in-blocks zero k past h =
+      elim (tree-cases body.labels body.types (λ j. tree_of body j) f (λ j. ⊥) (block_at body.blocks k) (past-none k (omega (arith, past))) (opened k h)) [
+        | inl own ↦ own-in-all f body.blocks k own
+        | inr found ↦ absurd found.1
+      ]
+  in-blocks (suc n) k past h =
+      elim (tree-cases body.labels body.types (λ j. tree_of body j) f (λ j. k < j) (block_at body.blocks k) (rule.names_rise.each k) (opened k h)) [
+        | inl own ↦ own-in-all f body.blocks k own
+        | inr found ↦ in-blocks n found.0 (omega (arith, past, found.1)) found.2
+      ]
+
+  once-named : (k : ℕ) → 0 < k → k < length body.blocks → 1 ≤ all_namings k body.blocks
+  once-named k more less =
+      let e = rule.once.each k in
+      let t = lt-ltb k (length body.blocks) less in
+      let other : times k (0 ∷ []) ≡ 0 = other_number k more in
+      let one = ap (λ (b : Bool). cond {A = ℕ} b 1 0) t in
+      omega (arith, e, other, one)
+
+  to-root : (n k : ℕ) → k < n → k < length body.blocks → At k → At 0
+  to-root zero k less there h = absurd (omega (arith, less))
+  to-root (suc n) zero less there h = h
+  to-root (suc n) (suc k) less there h =
+      let namer = naming-block (suc k) body.blocks (once-named (suc k) (omega arith) there) in
+      let lower : namer.0 < suc k = names-such (λ j. namer.0 < j) (suc k) (block_at body.blocks namer.0) (rule.names_rise.each namer.0) namer.1 in
+      to-root n namer.0 (omega (arith, less, lower)) (omega (arith, there, lower))
+      (closed namer.0 (named-in-tree body.labels body.types (λ j. tree_of body j) f (suc k) (block_at body.blocks namer.0) namer.1 h))
+
+  in-tree : Has f (all_own body.blocks) → At 0
+  in-tree h =
+      let found = block-of f body.blocks h in
+      to-root (suc found.0) found.0 (omega arith) found.1
+      (closed found.0 (own-in-tree body.labels body.types (λ j. tree_of body j) f (block_at body.blocks found.0) found.2))
+
+  same-tests : (a b : Bool) → (IsTrue a → IsTrue b) → (IsTrue b → IsTrue a) → a ≡ b
+  same-tests true true there back = refl
+  same-tests true false there back = sym (there refl)
+  same-tests false true there back = back refl
+  same-tests false false there back = refl
+
+  -- a body refers to what the instructions of its blocks refer to
+  pub tree-refers : is_among f (refs_of (tree_of body 0)) ≡ is_among f (own_references (in_order body.blocks))
+  tree-refers =
+      same-tests (is_among f (refs_of (tree_of body 0))) (is_among f (all_own body.blocks))
+      (λ h. in-blocks (length body.blocks) 0 (omega arith) h) in-tree

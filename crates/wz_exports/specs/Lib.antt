@@ -1,0 +1,8 @@
+pub mod Names
+pub mod Functions
+pub mod Kept
+pub mod Answers
+pub mod Listed
+pub mod Undeclared
+pub mod Gathered
+pub mod Laws
