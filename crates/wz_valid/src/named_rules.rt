@@ -1,8 +1,7 @@
 //! The rules of items that name others: exports and the start (Core Specification 2.0, sections
 //! 3.4.7 and 3.4.8).
 
-ghost use Rattle.std.specs.Prelude.{◌≡◌, ◌<◌, ℕ, [], Some, MatchBool};
-ghost use Rattle.wz_valid_code.specs.Context.{function_type};
+ghost use Rattle.std.specs.Prelude.{MatchBool};
 ghost use Rattle.wz_module.specs.Meaning.{module_of};
 ghost use Rattle.wz_valid.specs.Items.{IsTarget, IsStartOk};
 ghost use Rattle.wz_valid.specs.Checking.{IsContextOf, TellsItem, AreNamesNew, AreItemsBeforeOk};

@@ -1,8 +1,7 @@
 //! The rules of items that hold code: globals, element segments, bodies and data segments (Core
 //! Specification 2.0, sections 3.4.1 and 3.4.4 to 3.4.6).
 
-ghost use Rattle.std.specs.Prelude.{◌≡◌, ◌<◌, [], ◌∷◌, map, slice_get, IsSomeAnd, MatchBool};
-ghost use Rattle.std.specs.Prelude.{IfOk, All};
+ghost use Rattle.std.specs.Prelude.{◌≡◌, map, slice_get, IsSomeAnd, MatchBool, IfOk};
 ghost use Rattle.wz_types.specs.Fits.{type_of_kind};
 ghost use Rattle.wz_code.specs.Trees.{tree_of};
 ghost use Rattle.wz_valid_code.specs.Context.{HasTypes};

@@ -1,7 +1,6 @@
 //! Whether a module is valid (Core Specification 2.0, section 3.4.10): its items, part by part.
 
-ghost use Rattle.std.specs.Prelude.{◌≡◌, ◌<◌, ◌^◌, length, OnOk, IfOk, IfErr};
-ghost use Rattle.wz_valid_code.specs.Context.{HasTypes};
+ghost use Rattle.std.specs.Prelude.{◌≡◌, length, OnOk, IfOk, IfErr};
 ghost use Rattle.wz_module.specs.Meaning.{module_of};
 ghost use Rattle.wz_valid.specs.Indices.{all_memories};
 ghost use Rattle.wz_valid.specs.Validity.{IsValid, IsPartOk, IsRefused, part_length, part_rank};
