@@ -70,6 +70,18 @@ fn make_place(spare: &mut Option<Box<Whole>>, alloc: Global) -> Result<(), Alloc
     Ok(())
 }
 
+/// Makes room for one instruction where there is none yet. `push` would make room for four, and a
+/// module may have millions of bodies with a single instruction.
+#[inline]
+fn make_first_room(code: &mut Vec<Instr>, alloc: Global) -> Result<(), AllocError>
+    ensures { code.new.items ≡ code.old.items }
+{
+    if code.is_empty() {
+        *code = Vec::with_capacity(alloc, 1)?;
+    }
+    Ok(())
+}
+
 impl BodyBuilder {
     /// No instruction yet, but block 0.
     pub fn new(alloc: Global) -> BodyBuilder
@@ -112,6 +124,7 @@ impl BodyBuilder {
     {
         if self.counts.is_empty() {
             let number = self.code.len() as u32;
+            make_first_room(&mut self.code, self.alloc)?;
             self.code.push(instr)?;
             return Ok(number);
         }
