@@ -1,3 +1,4 @@
+pub mod SayingLemmas
 pub mod DeliverLemmas
 pub mod VerdictLaws
 pub mod InputLemmas

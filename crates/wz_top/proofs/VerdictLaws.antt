@@ -21,7 +21,7 @@ use Rattle.wz_top.specs.Verdict.{Verdict, Refuses, Gives, IsVerdict, IsRefusedBy
 use Rattle.wz_top.specs.declared.first_grammar.Global.{Global}
 use Rattle.wz_top.specs.declared.first_grammar.Instruction.{Instruction}
 use Rattle.wz_top.specs.declared.outcome.Report.{Report}
-use Rattle.wz_top.specs.declared.outcome.ExportFault.TheVariants as fault
+use Rattle.wz_exports.specs.declared.fault.ExportFault.TheVariants as fault
 use Rattle.wz_top.specs.declared.outcome.Outcome.{Outcome}
 use Rattle.wz_top.specs.declared.outcome.Outcome.TheVariants.{NotYet, Exports, NoMemory}
 use Rattle.wz_top.proofs.FirstLaws.{sections_exact}

@@ -1,4 +1,7 @@
 pub mod Outcome
+pub mod Texts
+pub mod Saying
+pub mod Pieces
 pub mod Words
 pub mod Devices
 pub mod FirstGrammar

@@ -5,7 +5,7 @@ use Rattle.wz_top.specs.FirstRun.{IsFirst, initialize}
 use Rattle.wz_top.specs.FirstWriter.{output, report}
 use Rattle.wz_top.specs.declared.first_grammar.Global.{Global}
 use Rattle.wz_top.specs.declared.outcome.Report.{Report}
-use Rattle.wz_top.specs.declared.outcome.ExportFault.TheVariants.{NoInit}
+use Rattle.wz_exports.specs.declared.fault.ExportFault.TheVariants.{NoInit}
 use Rattle.wz_top.specs.declared.outcome.Outcome.{Outcome}
 use Rattle.wz_top.specs.declared.outcome.Outcome.TheVariants.{NotYet, Exports, NoMemory, Done, InputFault, OutputFault}
 

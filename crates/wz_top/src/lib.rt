@@ -18,11 +18,14 @@ mod first_vector;
 mod first_writer;
 pub mod laws;
 mod outcome;
+mod pieces;
 #[cfg(test)]
 mod tests;
+mod texts;
 mod top;
 mod turn;
 mod words;
 
-pub use outcome::{ExportFault, Outcome, Report};
+pub use outcome::{Outcome, Report};
+pub use texts::print_outcome;
 pub use top::wizer;

@@ -2,9 +2,10 @@
 
 ghost use Rattle.std.specs.Prelude.{◌<◌};
 
-use crate::{ExportFault, Outcome, wizer};
+use crate::{Outcome, wizer};
 use std::alloc::{AllocError, Global};
 use std::test::Fail;
+use wz_exports::ExportFault;
 use wz_io::{CallKind, INPUT_LIMIT, MemFiles, MemSink, Side};
 use wz_types::Text;
 

@@ -13,8 +13,9 @@ use crate::first_rules::{INITIALIZE, are_targets_ok, has_initialize, have_distin
 use crate::first_run::execute;
 use crate::first_vector::ReadFault;
 use crate::first_writer::write_module;
-use crate::{ExportFault, Outcome, Report};
+use crate::{Outcome, Report};
 use std::alloc::{AllocError, Global as Heap};
+use wz_exports::ExportFault;
 use wz_types::Text;
 
 /// The output and its report, or the refusal.
