@@ -11,5 +11,6 @@ pub mod FirstViews
 pub mod FirstRun
 pub mod FirstRunViews
 pub mod FirstWriter
+pub mod Refusals
 pub mod Verdict
 pub mod Asked

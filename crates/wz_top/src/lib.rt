@@ -11,6 +11,7 @@ mod deliver;
 mod fetch;
 mod first_grammar;
 mod first_module;
+mod first_path;
 mod first_reader;
 mod first_rules;
 mod first_run;
@@ -19,12 +20,12 @@ mod first_writer;
 pub mod laws;
 mod outcome;
 mod pieces;
+mod refusals;
 #[cfg(test)]
 mod tests;
 mod texts;
 mod top;
 mod turn;
-mod words;
 
 pub use outcome::{Outcome, Report};
 pub use texts::print_outcome;
