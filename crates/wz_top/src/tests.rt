@@ -45,19 +45,19 @@ fn texts(alloc: Global, words: &[&str]) -> Result<Vec<Text>, AllocError> {
 
 // How a run ended, the files and the messages behind it.
 #[derive(Drop)]
-struct Ended {
+struct Ending {
     outcome: Outcome,
     files: MemFiles,
     messages: MemSink,
 }
 
 // The end of a run with these words, where the input has these pieces.
-fn ended(alloc: Global, words: &[&str], pieces: &[&[u8]]) -> Result<Ended, AllocError> {
+fn ended(alloc: Global, words: &[&str], pieces: &[&[u8]]) -> Result<Ending, AllocError> {
     let mut files = MemFiles::new(alloc, Vec::new(alloc), 4096);
     let mut messages = MemSink::new(alloc, None);
     files.put_file("in.wasm", joined(alloc, pieces)?)?;
     let outcome = wizer(alloc, &texts(alloc, words)?, &mut files, &mut messages);
-    Ok(Ended {
+    Ok(Ending {
         outcome,
         files,
         messages,
@@ -349,7 +349,7 @@ fn an_input_that_is_missing_or_too_long_makes_no_output(rt: HostRuntime) -> Resu
     let missing = wizer(alloc, &words, &mut files, &mut messages);
     assert!(rt; matches!(&missing, Outcome::InputFault));
     assert_eq!(rt; missing.code(), 3);
-    assert!(rt; messages.text() == b"wizer: the input can't be read\n");
+    assert!(rt; messages.text() == "wizer: the input can't be read\n".as_bytes());
     files.put_file("in.wasm", vec![in alloc; 0u8; INPUT_LIMIT + 1]?)?;
     let long = wizer(alloc, &words, &mut files, &mut messages);
     assert!(rt; matches!(&long, Outcome::InputTooLong));
