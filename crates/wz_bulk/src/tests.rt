@@ -199,24 +199,44 @@ fn add_segments(
     Ok(())
 }
 
-/// Two memories of a page, two tables of functions and one of an object, and two segments of each
-/// kind, of which the second ones are dropped.
-fn instance<'m>(rt: &impl Abort, alloc: Global) -> Result<Store<'m, PlainMemory>, Fail> {
-    let limits = Limits { min: 1, max: None };
-    let mut store = Store::new(alloc, &[]);
+/// Adds two tables of functions and one of an object.
+fn add_tables(rt: &impl Abort, store: &mut Store<'_, PlainMemory>) -> Result<(), Fail> {
     for kind in [RefKind::Func, RefKind::Func, RefKind::Extern] {
         assert!(rt; store.table_count() < 9);
         store.add_table(table_of(kind))?;
     }
-    for _ in 0..2 {
-        assert!(rt; store.memory_count() < 9);
-        store.add_memory(MemType { limits })?;
-        add_segments(rt, alloc, &mut store)?;
-    }
-    memory_init(&mut store, 0, 0, 0, 0, 8)?;
-    table_init(&mut store, 0, 0, 0, 0, 4);
-    data_drop(&mut store, 1);
-    elem_drop(&mut store, 1);
+    Ok(())
+}
+
+/// Adds a memory of a page, and a segment of each kind.
+fn add_memory(
+    rt: &impl Abort,
+    alloc: Global,
+    store: &mut Store<'_, PlainMemory>,
+) -> Result<(), Fail> {
+    let limits = Limits { min: 1, max: None };
+    assert!(rt; store.memory_count() < 9);
+    store.add_memory(MemType { limits })?;
+    add_segments(rt, alloc, store)
+}
+
+/// Copies the first segments into the first memory and table, and drops the second ones.
+fn fill_and_drop(store: &mut Store<'_, PlainMemory>) -> Result<(), AllocError> {
+    memory_init(store, 0, 0, 0, 0, 8)?;
+    table_init(store, 0, 0, 0, 0, 4);
+    data_drop(store, 1);
+    elem_drop(store, 1);
+    Ok(())
+}
+
+/// Two memories of a page, two tables of functions and one of an object, and two segments of each
+/// kind, of which the second ones are dropped.
+fn instance<'m>(rt: &impl Abort, alloc: Global) -> Result<Store<'m, PlainMemory>, Fail> {
+    let mut store = Store::new(alloc, &[]);
+    add_tables(rt, &mut store)?;
+    add_memory(rt, alloc, &mut store)?;
+    add_memory(rt, alloc, &mut store)?;
+    fill_and_drop(&mut store)?;
     Ok(store)
 }
 
@@ -301,14 +321,17 @@ fn grow(
 }
 
 #[test]
-fn entries_and_growth(rt: HostRuntime) -> Result<(), Fail> {
-    let mut store = instance(&rt, rt.alloc())?;
+fn entries(rt: HostRuntime) -> Result<(), Fail> {
+    let store = instance(&rt, rt.alloc())?;
     for (row, (table, at, answer)) in ENTRIES.iter().enumerate() {
-        assert!(rt;
-            table_get(&store, *table, *at) == *answer,
-            "entry, row {row}"
-        );
+        assert!(rt; table_get(&store, *table, *at) == *answer, "row {row}");
     }
+    Ok(())
+}
+
+#[test]
+fn growth(rt: HostRuntime) -> Result<(), Fail> {
+    let mut store = instance(&rt, rt.alloc())?;
     for (row, (table, by, value, answer, size)) in GROWTHS.iter().enumerate() {
         assert!(rt;
             grow(&rt, &mut store, *table, *by, *value)? == *answer,

@@ -1,6 +1,6 @@
 //! A store by its calls, over a memory in one vector.
 
-ghost use Rattle.std.specs.Prelude.{◌<◌, length};
+ghost use Rattle.std.specs.Prelude.{◌≡◌, ◌<◌, length};
 
 use crate::{Function, Store};
 use std::alloc::Global;
@@ -85,7 +85,35 @@ fn table_type(min: u32) -> TableType {
     }
 }
 
-/// A store with one of each and a second global, where a function has type 0.
+/// Adds a function of type 0, two globals, a table and a memory.
+fn add_items(store: &mut Store<'_, PlainMemory>) -> Result<(), Fail>
+    requires functions { length store.old.functions ≡ 0 }
+    requires globals { length store.old.globals ≡ 0 }
+    requires tables { length store.old.tables ≡ 0 }
+    requires memories { length store.old.memories ≡ 0 }
+{
+    store.add_function(OWN)?;
+    store.add_global(COUNTER, Value::I32(7))?;
+    store.add_global(COUNTER, Value::I32(8))?;
+    store.add_table(table_type(1))?;
+    let limits = Limits { min: 1, max: None };
+    store.add_memory(MemType { limits })?;
+    Ok(())
+}
+
+fn add_segments(
+    rt: &impl Abort,
+    alloc: Global,
+    store: &mut Store<'_, PlainMemory>,
+) -> Result<(), Fail> {
+    assert!(rt; store.element_count() < 9);
+    store.add_element(RefKind::Func, [FUNCTION].to_vec(alloc)?)?;
+    assert!(rt; store.segment_count() < 9);
+    store.add_data(DATA)?;
+    Ok(())
+}
+
+/// A store with one of each and a second global.
 fn one_of_each<'m>(
     rt: &impl Abort,
     alloc: Global,
@@ -94,16 +122,8 @@ fn one_of_each<'m>(
     requires { length types.now < 9 }
 {
     let mut store = Store::new(alloc, types);
-    store.add_function(OWN)?;
-    store.add_global(COUNTER, Value::I32(7))?;
-    store.add_global(COUNTER, Value::I32(8))?;
-    store.add_table(table_type(1))?;
-    let limits = Limits { min: 1, max: None };
-    store.add_memory(MemType { limits })?;
-    assert!(rt; store.element_count() < 9);
-    store.add_element(RefKind::Func, [FUNCTION].to_vec(alloc)?)?;
-    assert!(rt; store.segment_count() < 9);
-    store.add_data(DATA)?;
+    add_items(&mut store)?;
+    add_segments(rt, alloc, &mut store)?;
     Ok(store)
 }
 
@@ -178,22 +198,45 @@ fn setters_change_one_item(rt: HostRuntime) -> Result<(), Fail> {
     Ok(())
 }
 
+fn extend_table(rt: &impl Abort, store: &mut Store<'_, PlainMemory>, by: u32) -> Result<(), Fail> {
+    let entries = store.table(0).ok_or("no table")?;
+    assert!(rt; entries.len() < 10 && by < 10);
+    assert!(rt; store.table_count() == 1);
+    store.extend_table(0, by, FUNCTION)?;
+    Ok(())
+}
+
+fn grow_memory(rt: &impl Abort, store: &mut Store<'_, PlainMemory>) -> Result<(), Fail> {
+    let memory = store.memory_mut(0).ok_or("no memory")?;
+    assert!(rt; memory.size_pages() < 10);
+    memory.grow(1)?;
+    Ok(())
+}
+
+fn fill_table(store: &mut Store<'_, PlainMemory>) -> Result<(), Fail> {
+    let table = store.table_mut(0).ok_or("no table")?;
+    table.entries_mut().fill(NULL);
+    Ok(())
+}
+
 #[test]
 fn what_grows_has_its_new_size_in_its_type(rt: HostRuntime) -> Result<(), Fail> {
     let mut store = one_of_each(&rt, rt.alloc(), &[])?;
     for (row, (by, size)) in GROWTHS.iter().enumerate() {
-        let entries = store.table(0).ok_or("no table")?;
-        assert!(rt; entries.len() < 10 && *by < 10 && store.table_count() == 1);
-        store.extend_table(0, *by, FUNCTION)?;
+        extend_table(&rt, &mut store, *by)?;
         assert!(rt; store.table_type(0) == Some(table_type(*size)), "row {row}");
     }
-    let memory = store.memory_mut(0).ok_or("no memory")?;
-    assert!(rt; memory.size_pages() < 10);
-    memory.grow(1)?;
+    grow_memory(&rt, &mut store)?;
     let limits = Limits { min: 2, max: None };
     assert!(rt; store.memory_type(0) == Some(MemType { limits }));
-    let table = store.table_mut(0).ok_or("no table")?;
-    table.entries_mut().fill(NULL);
-    assert!(rt; store.table(0) == Some([NULL; 4].as_slice()));
+    Ok(())
+}
+
+#[test]
+fn entries_are_written_in_place(rt: HostRuntime) -> Result<(), Fail> {
+    let mut store = one_of_each(&rt, rt.alloc(), &[])?;
+    extend_table(&rt, &mut store, 1)?;
+    fill_table(&mut store)?;
+    assert!(rt; store.table(0) == Some([NULL, NULL].as_slice()));
     Ok(())
 }
