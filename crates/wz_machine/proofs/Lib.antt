@@ -5,3 +5,8 @@ pub mod MoveLemmas
 pub mod ContextLemmas
 pub mod FlatLemmas
 pub mod TypedLemmas
+pub mod StuckParts
+pub mod StuckRelations
+pub mod StuckValues
+pub mod StuckChanges
+pub mod StuckContexts

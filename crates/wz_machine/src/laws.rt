@@ -7,6 +7,7 @@ ghost use Rattle.wz_machine.specs.Flat.{LeavingTerm, LoopingTerm};
 ghost use Rattle.wz_machine.specs.Laws.{LeafReads, StepReads, MemoryGrowthReads, TableGrowthReads};
 ghost use Rattle.wz_machine.specs.Laws.{ChangeKeeps, ChangeReachesState, StepAddsNone, StepNames};
 ghost use Rattle.wz_machine.specs.Laws.{LeafSame, StepSame, ObservesSame, TypedNames, ContextLasts};
+ghost use Rattle.wz_machine.specs.TypedSteps.{ChangeKeepsTyping};
 
 /// What an instruction or a step does rests on nothing of the state but types, functions and what
 /// it names; growth looks at the present size and the maximum alone.
@@ -69,4 +70,9 @@ pub fn flat_terms()
 pub fn typed_states()
     ensures segments { TypedNames }
     ensures context { ContextLasts }
+{}
+
+/// What a step or an access changes keeps a typed state typed.
+pub fn typed_changes()
+    ensures { ChangeKeepsTyping }
 {}
