@@ -9,4 +9,8 @@ pub mod StuckParts
 pub mod StuckRelations
 pub mod StuckValues
 pub mod StuckChanges
+pub mod StuckOperands
+pub mod StuckAccesses
+pub mod StuckMemories
+pub mod StuckTables
 pub mod StuckContexts

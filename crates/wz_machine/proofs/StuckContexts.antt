@@ -1,16 +1,13 @@
 -- A step keeps the typing of a term, if instructions that hold no others do what their rules say.
-use Rattle.std.proofs.Common.{◌≡◌, ◌≤◌, ◌^◌, ◌++◌, ◌∷◌, ◌∙◌, ◌==◌, [], ℕ, if◌then◌else◌, Bool, true, false, List, IsTrue, nat_lt, subst, None, Some, refl, sym, Option, reverse, drop, length, nat_le, take, IsSomeAnd, suc, zero, eq-eqb}
+use Rattle.std.proofs.Common.{◌≡◌, ◌≤◌, ◌++◌, ◌∷◌, ◌∙◌, ◌==◌, [], ℕ, List, subst, None, Some, refl, sym, Option, reverse, drop, length, nat_le, take, IsSomeAnd, suc, zero, true, eq-eqb}
 use Rattle.std.proofs.lemmas.Bool.{le-leb}
 use Rattle.std.proofs.lemmas.List.{length-reverse, reverse-append, reverse-reverse}
-use Rattle.wz_types.specs.declared.value.Value.{Value}
 use Rattle.wz_types.specs.declared.types.ValType.{ValType}
-use Rattle.wz_types.specs.declared.value.Value.TheVariants.{I32, I64, F32, F64, Ref}
-use Rattle.wz_types.specs.declared.value.Reference.TheVariants.{Null, Fn, Foreign}
+use Rattle.wz_types.specs.declared.value.Value.{Value}
 use Rattle.wz_types.proofs.SameTypeLemmas.{same_type-true}
 use Rattle.wz_types.specs.FunctionType.{FunctionType}
+use Rattle.wz_types.specs.declared.value.Value.TheVariants.{I32}
 use Rattle.wz_types.specs.declared.types.ValType.TheVariants as valtype
-use Rattle.wz_types.specs.declared.types.RefKind.TheVariants as kind
-use Rattle.wz_types.specs.declared.value.Sort.TheVariants as sort
 use Rattle.wz_code.specs.declared.instr.Shape.{Shape}
 use Rattle.wz_code.specs.declared.instr.Shape.TheVariants.{Empty, One, Index}
 use Rattle.wz_code.specs.Trees.{Code, End, Then, InBlock, InLoop, InIf}
@@ -28,32 +25,11 @@ use Rattle.wz_machine.specs.Step.{effect_reduct, outcome_reduct, code_reduct, in
 use Rattle.wz_machine.specs.Terms.{InLabel, Innermost, Inside, InFrame, Term, Frame, BareValues}
 use Rattle.wz_machine.specs.InstrSteps.{leaf_step}
 use Rattle.wz_machine.specs.TypedSteps.{IsAnswerTyped}
-use Rattle.wz_machine.proofs.StuckRelations.{Offered, LeavesServe, EffectServes, scope_in, ReductServes, OutcomeServes, Offers}
+use Rattle.wz_machine.proofs.StuckRelations.{LeavesServe, EffectServes, scope_in, ReductServes, OutcomeServes, Offered, Offers}
 use Rattle.wz_machine.proofs.StuckValues.{stand-pushed, offers-of, stand-taken, as_operands-reverse, stand-length, stand-reverse}
-
--- the arm of a test that holds
-pub if-true : {A : Type 0} (P : A → Type 0) (b : Bool) (x y : A) → b ≡ true → P x → P (if b then x else y)
-if-true P true x y e h = h
-if-true P false x y e h = absurd (cc e)
+use Rattle.wz_machine.proofs.StuckOperands.{if-true, take-i32}
 
 module _ (context : TypingContext) where
-  -- ---- a number on top of the stack
-
-  -- an i32 stands on top
-  pub take-i32 : (P : List Value → Type 0) (types : List ValType) → ((bits : ℕ) (values : List Value) → IsTrue (nat_lt bits (2 ^ 32)) → Offered context types values → P (I32 bits ∷ values))
-      → (values : List Value) → Offered context (valtype.I32 ∷ types) values → P values
-  take-i32 P types use_it [] h = absurd h
-  take-i32 P types use_it (I32 bits ∷ values) h = use_it bits values h.0 h.1
-  take-i32 P types use_it (I64 bits ∷ values) h = absurd (let e = h.0 in cc)
-  take-i32 P types use_it (F32 bits ∷ values) h = absurd (let e = h.0 in cc)
-  take-i32 P types use_it (F64 bits ∷ values) h = absurd (let e = h.0 in cc)
-  take-i32 P types use_it (Ref (Null kind.Func) ∷ values) h = absurd (let e = h.0 in cc)
-  take-i32 P types use_it (Ref (Null kind.Extern) ∷ values) h = absurd (let e = h.0 in cc)
-  take-i32 P types use_it (Ref (Fn index) ∷ values) h = absurd (let e = h.0 in cc)
-  take-i32 P types use_it (Ref (Foreign id sort.Extern) ∷ values) h = absurd (let e = h.0 in cc)
-  take-i32 P types use_it (Ref (Foreign id (sort.Func number)) ∷ values) h = absurd (let e = h.0 in cc)
-  take-i32 P types use_it (Ref (Foreign id sort.OtherFunc) ∷ values) h = absurd (let e = h.0 in cc)
-
   -- ---- whole stacks
 
   -- all values are of the types that are taken
