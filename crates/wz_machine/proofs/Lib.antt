@@ -14,3 +14,6 @@ pub mod StuckAccesses
 pub mod StuckMemories
 pub mod StuckTables
 pub mod StuckContexts
+pub mod StuckPlain
+pub mod StuckCalls
+pub mod StuckBranches
