@@ -17,3 +17,4 @@ pub mod StuckContexts
 pub mod StuckPlain
 pub mod StuckCalls
 pub mod StuckBranches
+pub mod StuckLeaves
