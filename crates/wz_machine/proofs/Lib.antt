@@ -10,7 +10,7 @@ pub mod StuckRelations
 pub mod StuckValues
 pub mod StuckChanges
 pub mod StuckOperands
-pub mod StuckAccesses
+pub mod StuckLoads
 pub mod StuckMemories
 pub mod StuckTables
 pub mod StuckContexts
@@ -18,3 +18,6 @@ pub mod StuckPlain
 pub mod StuckCalls
 pub mod StuckBranches
 pub mod StuckLeaves
+pub mod StuckReplies
+pub mod StuckAccesses
+pub mod StuckSessions

@@ -25,7 +25,6 @@ use Rattle.wz_valid_code.specs.Context.{TypingContext, Labels, function_type, ty
 use Rattle.wz_valid_code.specs.Operands.{Operands, pushed, Takes}
 use Rattle.wz_valid_code.specs.Rules.{Leads, rule_from, Exchange, rule_if}
 use Rattle.wz_store.specs.State.{Table}
-use Rattle.wz_bulk.specs.Effects.{within}
 use Rattle.wz_machine.specs.TypedTerms.{HaveTypes, as_operands}
 use Rattle.wz_machine.specs.CallSteps.{starting_locals, with_arguments, invocation, call_step, expected_call, host_call, foreign_call, sort_call, entry_call, call_indirect_step}
 use Rattle.wz_machine.specs.State.{State, FunctionInstance, callable_at, FunctionBody, callable_of, OwnBody, ImportedBody, NoBody, callable_from, Callable}

@@ -11,6 +11,7 @@ use Rattle.wz_types.specs.declared.types.ValType.TheVariants as valtype
 use Rattle.wz_code.specs.declared.instr.Shape.{Shape}
 use Rattle.wz_code.specs.declared.instr.Shape.TheVariants.{Empty, One, Index}
 use Rattle.wz_code.specs.Trees.{Code, End, Then, InBlock, InLoop, InIf}
+use Rattle.wz_num.specs.Number.{number}
 use Rattle.wz_valid_code.specs.Context.{TypingContext, shape_type, Labels}
 use Rattle.wz_valid_code.specs.Operands.{Operands, Takes, pushed}
 use Rattle.wz_valid_code.specs.Typing.{IsTyped}
@@ -262,7 +263,8 @@ module _ (s : State) (leaves : LeavesServe s) where
       done-serves results count found long (subst (λ (x : List ValType). Offers (state_context s) found x) same offers)
   frame_answer-serves types results count locals (Branches (suc label) found) long l (asked, is, offers) = absurd (cc)
   frame_answer-serves types results count locals (Returns found) long l f = done-serves results count found long f
-  frame_answer-serves types results count locals (Pauses question inside) long l f = (f.0, λ vs h. (types, long, l, f.1 vs h))
+  frame_answer-serves types results count locals (Pauses question inside) long l f =
+      record { asked = f.0; answered = λ vs h. (types, long, l, f.1 vs h) }
   frame_answer-serves types results count locals (Traps kind) long l f = tt
   frame_answer-serves types results count locals Sticks long l f = absurd f
 

@@ -10,7 +10,6 @@ use Rattle.wz_types.specs.declared.value.Value.TheVariants.{I32, I64, F32, F64, 
 use Rattle.wz_types.specs.declared.value.Reference.TheVariants.{Null}
 use Rattle.wz_types.specs.Fits.{type_of_kind}
 use Rattle.wz_types.specs.declared.types.ValType.TheVariants as valtype
-use Rattle.wz_types.specs.declared.types.RefKind.TheVariants as kind
 use Rattle.wz_code.specs.declared.instr.Instr.{Instr}
 use Rattle.wz_code.specs.Trees.{Plain, Leaf, TypedSelect, TableBranch}
 use Rattle.wz_code.specs.Accesses.{shape_of}

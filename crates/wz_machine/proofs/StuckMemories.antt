@@ -28,7 +28,7 @@ use Rattle.wz_machine.proofs.StuckOperands.{Serves, take-i32, if-tested, take-th
 use Rattle.wz_machine.proofs.StuckRelations.{EffectServes}
 use Rattle.wz_machine.proofs.LeafLemmas.{if-both}
 use Rattle.wz_machine.proofs.StuckParts.{bytes-part, part-short, bytes-same, bytes-of}
-use Rattle.wz_machine.proofs.StuckAccesses.{loads, stores}
+use Rattle.wz_machine.proofs.StuckLoads.{loads, stores}
 
 module _ (s : State) (typed : IsStateTyped (state_context s) s) where
   -- ---- sizes

@@ -47,8 +47,11 @@ module _ (s : State) (typed : IsStateTyped (state_context s) s) where
       if-true (λ (e : BulkEffect). EffectServes s below (bulk_step values e)) (same_kind kind table.kind)
       (if fits then Makes (WriteTable index to new) else Aborts TableBounds) Misfits same
       (if-tested (λ (e : BulkEffect). EffectServes s below (bulk_step values e)) fits (Makes (WriteTable index to new)) (Aborts TableBounds)
-      (λ test. ((λ other is_other. let e : table ≡ other = cc in
-      subst (λ (t : Table). HaveKind (state_context s) t.kind new × (to + length new ≤ length t.entries)) e (every, le test)), st)) tt)
+      (λ test. (
+        (λ other is_other. let e : table ≡ other = cc in
+            subst (λ (t : Table). HaveKind (state_context s) t.kind new × (to + length new ≤ length t.entries)) e (every, le test)),
+        st,
+      )) tt)
 
   range-short : (table : Table) (to : ℕ) (source : List Reference) (from count : ℕ) → (within to count (length table.entries) && within from count (length source)) ≡ true
       → to + length (take count (drop from source)) ≤ length table.entries

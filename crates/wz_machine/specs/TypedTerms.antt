@@ -84,11 +84,10 @@ IsQuestionTyped context (AskTable index by reference) =
     (kind : RefKind) → slice_get context.tables index ≡ Some kind → HasType context (Ref reference) (type_of_kind kind)
 IsQuestionTyped context (AskHost target arguments type) = Unit {0}
 
--- what is left of a term that waits, with whatever answers its question
-abbrev pub IsWaitingTyped : TypingContext → Question → Term → List ValType → Type 0
-IsWaitingTyped context question rest results =
-    IsQuestionTyped context question
-    × ((values : List Value) → HaveTypes context values (pushed (answer_types question) []) → IsTermTyped context (put values rest) results)
+-- a term that waits: it gives these results with whatever answers its question
+pub record IsWaitingTyped (context : TypingContext) (question : Question) (rest : Term) (results : List ValType) : Type 0 where
+  pub asked : IsQuestionTyped context question
+  pub answered : (values : List Value) → HaveTypes context values (pushed (answer_types question) []) → IsTermTyped context (put values rest) results
 
 abbrev pub IsStandingTyped : TypingContext → Standing → Type 0
 IsStandingTyped context (Runs term) = (results : List ValType) × IsTermTyped context term results

@@ -7,7 +7,7 @@ ghost use Rattle.wz_machine.specs.Flat.{LeavingTerm, LoopingTerm};
 ghost use Rattle.wz_machine.specs.Laws.{LeafReads, StepReads, MemoryGrowthReads, TableGrowthReads};
 ghost use Rattle.wz_machine.specs.Laws.{ChangeKeeps, ChangeReachesState, StepAddsNone, StepNames};
 ghost use Rattle.wz_machine.specs.Laws.{LeafSame, StepSame, ObservesSame, TypedNames, ContextLasts};
-ghost use Rattle.wz_machine.specs.TypedSteps.{ChangeKeepsTyping};
+ghost use Rattle.wz_machine.specs.TypedSteps.{ChangeKeepsTyping, StepKeepsTyping, MoveKeepsTyping, NeverStuck};
 
 /// What an instruction or a step does rests on nothing of the state but types, functions and what
 /// it names; growth looks at the present size and the maximum alone.
@@ -72,7 +72,14 @@ pub fn typed_states()
     ensures context { ContextLasts }
 {}
 
-/// What a step or an access changes keeps a typed state typed.
-pub fn typed_changes()
-    ensures { ChangeKeepsTyping }
-{}
+/// A step of a typed term in a typed state keeps the typing and isn't stuck, what it changes keeps
+/// the state typed, and so does any move from outside; so no move of a session is ever stuck.
+pub fn never_stuck()
+    ensures changes { ChangeKeepsTyping }
+    ensures steps { StepKeepsTyping }
+    ensures moves { MoveKeepsTyping }
+    ensures sessions { NeverStuck }
+{
+    // numeric operations answer the operands that they are given by their types
+    wz_num::laws::operands_are_served();
+}
