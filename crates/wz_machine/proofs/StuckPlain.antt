@@ -146,9 +146,9 @@ module _ (s : State) (typed : IsStateTyped (state_context s) s) where
       by None st = absurd st
       by (Some type) st = (tt, st.1)
 
-  if_entry-serves : (c b a : Value) (values : List Value) (result : Operand) (below : Operands) → HasType (state_context s) c valtype.I32 → HaveTypes (state_context s) (b ∷ values) (result ∷ below)
+  picked-serves : (c b a : Value) (values : List Value) (result : Operand) (below : Operands) → HasType (state_context s) c valtype.I32 → HaveTypes (state_context s) (b ∷ values) (result ∷ below)
       → HaveTypes (state_context s) (a ∷ values) (result ∷ below) → EffectServes s (result ∷ below) (select_step (c ∷ b ∷ a ∷ values))
-  if_entry-serves c b a values result below fit second first =
+  picked-serves c b a values result below fit second first =
       let r = i32-of (state_context s) c fit in subst (λ (x : Value). EffectServes s (result ∷ below) (select_step (x ∷ b ∷ a ∷ values))) (sym r.1) (by r.0)
     where
       by : (bits : ℕ) → EffectServes s (result ∷ below) (select_step (I32 bits ∷ b ∷ a ∷ values))
@@ -158,7 +158,7 @@ module _ (s : State) (typed : IsStateTyped (state_context s) s) where
   pub select-serves : (values : List Value) (condition second first result : Operand) (below : Operands) → HaveTypes (state_context s) values (condition ∷ second ∷ first ∷ below)
       → IsTrue (fits condition valtype.I32) → Becomes second result → Becomes first result → EffectServes s (result ∷ below) (select_step values)
   select-serves (c ∷ b ∷ a ∷ values) (Some tc) (Some tb) (Some ta) result below (hc, (hb, (ha, st))) fit two one =
-      if_entry-serves c b a values result below (subst (λ (x : ValType). HasType (state_context s) c x) (same_type-true tc valtype.I32 fit) hc)
+      picked-serves c b a values result below (subst (λ (x : ValType). HasType (state_context s) c x) (same_type-true tc valtype.I32 fit) hc)
       (subst (λ (o : Operand). HaveTypes (state_context s) (b ∷ values) (o ∷ below)) (sym two) (hb, st)) (subst (λ (o : Operand). HaveTypes (state_context s) (a ∷ values) (o ∷ below)) (sym one) (ha, st))
   select-serves [] condition second first result below st fit two one = absurd st
   select-serves (c ∷ values) None second first result below st fit two one = absurd st
@@ -171,7 +171,7 @@ module _ (s : State) (typed : IsStateTyped (state_context s) s) where
   typed_select-serves type [] below off st = absurd off
   typed_select-serves type (c ∷ []) below off st = absurd off.1
   typed_select-serves type (c ∷ b ∷ []) below off st = absurd off.1.1
-  typed_select-serves type (c ∷ b ∷ a ∷ values) below off st = if_entry-serves c b a values (Some type) below off.0 (off.1.0, st) (off.1.1.0, st)
+  typed_select-serves type (c ∷ b ∷ a ∷ values) below off st = picked-serves c b a values (Some type) below off.0 (off.1.0, st) (off.1.1.0, st)
 
   -- ---- reference instructions
 
