@@ -21,3 +21,4 @@ pub mod StuckLeaves
 pub mod StuckReplies
 pub mod StuckAccesses
 pub mod StuckSessions
+pub mod StuckStores

@@ -13,7 +13,8 @@ use Rattle.wz_store.specs.State.{Memory, pages_of, page_size, Global, Table, Ele
 use Rattle.wz_bulk.proofs.RangeLemmas.{written_is}
 use Rattle.wz_machine.specs.TypedState.{HoldsBytes, IsStateTyped, state_context, HasType, HaveKind}
 use Rattle.wz_machine.specs.State.{State}
-use Rattle.wz_machine.specs.TypedSteps.{IsChangeTyped, ChangeKeepsTyping}
+use Rattle.wz_machine.specs.TypedSteps.{IsChangeTyped}
+use Rattle.wz_machine.specs.TypedLaws.{ChangeKeepsTyping}
 use Rattle.wz_machine.proofs.StuckParts.{each-written, each-join, each-same}
 use Rattle.wz_machine.proofs.TypedLemmas.{context_lasts}
 

@@ -31,7 +31,7 @@ use Rattle.wz_machine.specs.ParametricSteps.{select_step}
 use Rattle.wz_machine.specs.VariableSteps.{global_get_step}
 use Rattle.wz_machine.specs.TableSteps.{table_get_step, table_set_step, table_size_step, table_grow_step, table_fill_step, table_copy_step, table_init_step, elem_drop_step}
 use Rattle.wz_machine.specs.MemorySteps.{access_step, memory_size_step, memory_grow_step, memory_fill_step, memory_copy_step, memory_init_step, data_drop_step}
-use Rattle.wz_machine.specs.TypedSteps.{StepKeepsTyping}
+use Rattle.wz_machine.specs.TypedLaws.{StepKeepsTyping}
 use Rattle.wz_machine.proofs.StuckPlain.{view-cases, const-serves, operation-serves, push-serves, null-of, is_null-serves, ref_func-serves, drop-serves, select-serves, get-serves, set_local-serves, tee-serves, global_set-serves, item-cases, typed_select-serves}
 use Rattle.wz_machine.proofs.StuckRelations.{scope_in, OutcomeServes, EffectServes, LeavesServe}
 use Rattle.wz_machine.proofs.StuckOperands.{by-rule, rule-cases}

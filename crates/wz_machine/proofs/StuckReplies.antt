@@ -1,5 +1,5 @@
 -- What calls, ticks and answers come to where typed terms stand.
-use Rattle.std.proofs.Common.{◌≡◌, ◌<◌, ◌+◌, ◌^◌, ◌++◌, ◌∷◌, ◌&&◌, ◌∙◌, [], ℕ, List, true, subst, length, sym, reverse, slice_get, Some, nat_le, arith, nat_lt, ltb-true, refl, Option, None, ap, lt-ltb, option_map, Bool, false}
+use Rattle.std.proofs.Common.{◌≡◌, ◌<◌, ◌+◌, ◌^◌, ◌++◌, ◌∷◌, ◌&&◌, ◌∙◌, [], ℕ, List, true, subst, length, sym, reverse, slice_get, Some, nat_le, arith, nat_lt, ltb-true, IsSomeAnd, refl, Option, None, ap, lt-ltb, option_map, Bool, false}
 use Rattle.std.proofs.lemmas.List.{length-map}
 use Rattle.std.proofs.lemmas.Bool.{and_parts, leb-true}
 use Rattle.std.proofs.lemmas.Option.{slice_get-map}
@@ -12,20 +12,18 @@ use Rattle.wz_types.specs.FunctionType.{FunctionType}
 use Rattle.wz_types.specs.declared.types.ValType.TheVariants as valtype
 use Rattle.wz_code.specs.Numeric.{types_of}
 use Rattle.wz_num.specs.Laws.{NumbersServe}
-use Rattle.wz_num.specs.Number.{number}
 use Rattle.wz_valid_code.specs.Operands.{pushed, Operands}
 use Rattle.wz_store.specs.State.{Memory, pages_of, Table}
 use Rattle.wz_store.specs.Growth.{may_grow, within_maximum, may_extend}
 use Rattle.wz_store.specs.Changes.{GrowMemory, GrowTable}
 use Rattle.wz_machine.specs.State.{State, FunctionBody, OwnBody, ImportedBody, NoBody, callable_at, FunctionInstance, callable_from, Callable}
-use Rattle.wz_machine.specs.Replies.{Reply, refusal, event_reply, question_event, fits_in, all_fit_in, entry_reply, takes_values, call_reply, may_enter, answer_reply, tick_reply, float_reply, put, memory_grown, change_reply, table_grown, grow_reply, return_reply, abort_reply}
+use Rattle.wz_machine.specs.Replies.{Reply, refusal, event_reply, question_event, fits_in, all_fit_in, takes_values, entry_reply, call_reply, may_enter, answer_reply, tick_reply, float_reply, put, memory_grown, change_reply, table_grown, grow_reply, return_reply, abort_reply}
 use Rattle.wz_machine.specs.TypedSteps.{IsChangeTyped, IsNotStuck, IsAnswerTyped}
-use Rattle.wz_machine.specs.TypedTerms.{IsStackTyped, HaveTypes, as_operands, IsTermTyped, IsStandingTyped, answer_types}
+use Rattle.wz_machine.specs.TypedTerms.{IsStackTyped, HaveTypes, as_operands, IsStandingTyped, IsTermTyped, answer_types}
 use Rattle.wz_machine.specs.TypedState.{state_context, IsStateTyped, HasType, BodyTyped}
-use Rattle.wz_machine.specs.Terms.{Standing, Question, AskFloat, AskMemory, AskTable, AskHost, Runs, Frame, Innermost, Term, Waits}
+use Rattle.wz_machine.specs.Terms.{Standing, Question, AskFloat, AskMemory, AskTable, AskHost, Runs, Waits, Term}
 use Rattle.wz_machine.specs.Moves.{Event, Went}
 use Rattle.wz_machine.specs.Entered.{entered_body, entered, entered_callable}
-use Rattle.wz_machine.specs.CallSteps.{starting_locals}
 use Rattle.wz_machine.specs.Exports.{ExternalValue, ExternalFunction}
 use Rattle.wz_machine.specs.Outcomes.{Answer, Next, Done, Trap, Ask, Stuck}
 use Rattle.wz_machine.specs.Step.{step}
@@ -90,37 +88,39 @@ module _ (s : State) (typed : IsStateTyped (state_context s) s) where
 module _ (s : State) (typed : IsStateTyped (state_context s) s) (numbers : NumbersServe) where
   -- ---- calls and steps
 
-  entered_body-serves : (stack : List Standing) (type : FunctionType) (body : FunctionBody) (values : List Value) → IsStackTyped (state_context s) stack → BodyTyped (state_context s) type body
-      → HaveTypes (state_context s) values (as_operands type.params) → ReplyServes s (entry_reply stack (entered_body type body values))
-  entered_body-serves stack type (OwnBody locals code) values h b st =
-      event-serves s Went tt (Runs (Frame (length type.results) (starting_locals locals values) (Innermost [] code)) ∷ stack)
-      ((type.results, (type.params ++ locals, refl, locals-start (state_context s) type.params locals values st, ([], tt, b))), h)
-  entered_body-serves stack type (ImportedBody number) values h b st = record {
-    change = tt;
-    stack = ((type.results, record { asked = tt; answered = λ vs k. stand-pushed (state_context s) vs [] type.results [] k tt }), h);
-    event = tt;
-  }
-  entered_body-serves stack type NoBody values h b st = absurd b
+  body-entered : (type : FunctionType) (body : FunctionBody) (values : List Value) → BodyTyped (state_context s) type body
+      → HaveTypes (state_context s) values (as_operands type.params) → IsSomeAnd (entered_body type body values) (λ standing. IsStandingTyped (state_context s) standing)
+  body-entered type (OwnBody locals code) values b st =
+      (type.results, (type.params ++ locals, refl, locals-start (state_context s) type.params locals values st, ([], tt, b)))
+  body-entered type (ImportedBody index) values b st =
+      (type.results, record { asked = tt; answered = λ vs k. stand-pushed (state_context s) vs [] type.results [] k tt })
+  body-entered type NoBody values b st = absurd b
 
-  entered-serves : (stack : List Standing) (index : ℕ) (values : List Value) → IsStackTyped (state_context s) stack → takes_values s (callable_at s.types s.functions index) values ≡ true
-      → ReplyServes s (entry_reply stack (entered s index values))
-  entered-serves stack index values h fit = by (slice_get s.functions index) refl
+  pub entry-typed : (index : ℕ) (values : List Value) → takes_values s (callable_at s.types s.functions index) values ≡ true
+      → IsSomeAnd (entered s index values) (λ standing. IsStandingTyped (state_context s) standing)
+  entry-typed index values fit = by (slice_get s.functions index) refl
     where
-      by : (o : Option FunctionInstance) → slice_get s.functions index ≡ o → ReplyServes s (entry_reply stack (entered s index values))
+      by : (o : Option FunctionInstance) → slice_get s.functions index ≡ o → IsSomeAnd (entered s index values) (λ standing. IsStandingTyped (state_context s) standing)
       by None is =
           let none : callable_at s.types s.functions index ≡ None = ap (λ (o : Option FunctionInstance). callable_from s.types o) is in
-          subst (λ (c : Option Callable). ReplyServes s (entry_reply stack (entered_callable c values))) (sym none) (refusal-serves s stack h)
+          let wrong : takes_values s None values ≡ true = subst (λ (c : Option Callable). takes_values s c values ≡ true) none fit in absurd (cc wrong)
       by (Some function) is =
           let r = callable_at-there s typed index function is in
           let type : FunctionType = r.0 in
           let fits : all_fit_in s values type.params ≡ true = subst (λ (c : Option Callable). takes_values s c values ≡ true) r.3 fit in
-          subst (λ (c : Option Callable). ReplyServes s (entry_reply stack (entered_callable c values))) (sym r.3)
-          (entered_body-serves stack type function.body values h r.2 (all-stand s typed values type.params fits))
+          subst (λ (c : Option Callable). IsSomeAnd (entered_callable c values) (λ standing. IsStandingTyped (state_context s) standing)) (sym r.3)
+          (body-entered type function.body values r.2 (all-stand s typed values type.params fits))
+
+  entry-serves : (stack : List Standing) (o : Option Standing) → IsStackTyped (state_context s) stack → IsSomeAnd o (λ standing. IsStandingTyped (state_context s) standing)
+      → ReplyServes s (entry_reply stack o)
+  entry-serves stack None h t = absurd t
+  entry-serves stack (Some (Runs term)) h t = event-serves s Went tt (Runs term ∷ stack) (t, h)
+  entry-serves stack (Some (Waits question rest)) h t = record { change = tt; stack = (t, h); event = question-event question }
 
   pub call-serves : (stack : List Standing) (target : Option ExternalValue) (values : List Value) → IsStackTyped (state_context s) stack → ReplyServes s (call_reply s stack target values)
   call-serves stack (Some (ExternalFunction index)) values h =
       if-tested (λ (r : Reply). ReplyServes s r) (may_enter stack && takes_values s (callable_at s.types s.functions index) values) (entry_reply stack (entered s index values)) (refusal stack)
-      (λ test. entered-serves stack index values h (and_parts (may_enter stack) (takes_values s (callable_at s.types s.functions index) values) test).1) (refusal-serves s stack h)
+      (λ test. entry-serves stack (entered s index values) h (entry-typed index values (and_parts (may_enter stack) (takes_values s (callable_at s.types s.functions index) values) test).1)) (refusal-serves s stack h)
   call-serves stack None values h = refusal-serves s stack h
   call-serves stack (Some target) values h = refusal-serves s stack h
 

@@ -11,10 +11,15 @@ use Rattle.wz_machine.specs.TypedTerms.{IsStackTyped, IsMachineTyped}
 use Rattle.wz_machine.specs.Sessions.{access_reply, move_reply, observe_from}
 use Rattle.wz_machine.specs.Exports.{ExportInstance, exported}
 use Rattle.wz_machine.specs.Moves.{Move, CallMove, TickMove, FloatAnswer, GrowAnswer, ReturnMove, AbortMove, ReadMove, WriteMove, SizeMove, EnlargeMove, GetMove, SetMove}
-use Rattle.wz_machine.specs.TypedSteps.{MoveKeepsTyping, NoneStuck, IsReplyTyped, NeverStuck}
+use Rattle.wz_machine.specs.TypedLaws.{EntryIsTyped, ContentNeverSticks, MoveKeepsTyping, NeverStuck}
+use Rattle.wz_machine.specs.Contexts.{StepsWithin, term_in}
+use Rattle.wz_machine.specs.Outcomes.{Answer}
+use Rattle.wz_machine.specs.TypedSteps.{IsAnswerTyped, NoneStuck, IsReplyTyped}
 use Rattle.wz_machine.specs.Replies.{Reply}
 use Rattle.wz_machine.proofs.StuckAccesses.{AccessServes, read_access-serves, write_access-serves, size_access-serves, enlarge_access-serves, get_access-serves, set_access-serves}
-use Rattle.wz_machine.proofs.StuckReplies.{ReplyServes, call-serves, tick-serves, float-serves, grow-serves, return-serves, abort-serves}
+use Rattle.wz_machine.proofs.StuckReplies.{ReplyServes, call-serves, tick-serves, float-serves, grow-serves, return-serves, abort-serves, entry-typed}
+use Rattle.wz_machine.proofs.ContextLemmas.{step_within}
+use Rattle.wz_machine.proofs.StuckLeaves.{step_keeps_typing}
 use Rattle.wz_machine.proofs.StuckChanges.{change_keeps_typing}
 use Rattle.wz_machine.proofs.TypedLemmas.{context_lasts}
 
@@ -35,6 +40,15 @@ module _ (s : State) (typed : IsStateTyped (state_context s) s) (numbers : Numbe
   reply-serves exports stack (EnlargeMove name by value) h = access_reply-serves stack (enlarge_access s (exported exports name) by value) h (enlarge_access-serves s typed (exported exports name) by value)
   reply-serves exports stack (GetMove name at) h = access_reply-serves stack (get_access s (exported exports name) at) h (get_access-serves s typed (exported exports name) at)
   reply-serves exports stack (SetMove name at value) h = access_reply-serves stack (set_access s (exported exports name) at value) h (set_access-serves s typed (exported exports name) at value)
+
+pub entry_is_typed : NumbersServe → EntryIsTyped
+entry_is_typed numbers s function values typed fit = entry-typed s typed numbers function values fit
+
+-- a step of what sticks is stuck, and that of a typed term isn't
+pub content_never_sticks : NumbersServe → ContentNeverSticks
+content_never_sticks numbers s count layers content results typed h sticks =
+    let w : StepsWithin s count layers content = step_within s count layers content in
+    subst (λ (a : Answer). IsAnswerTyped s results a) (w.sticks sticks) (step_keeps_typing numbers s (term_in count layers content) results typed h)
 
 pub move_keeps_typing : NumbersServe → MoveKeepsTyping
 move_keeps_typing numbers exports s stack move typed =

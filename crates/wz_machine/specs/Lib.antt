@@ -29,3 +29,5 @@ pub mod Flat
 pub mod TypedState
 pub mod TypedTerms
 pub mod TypedSteps
+pub mod TypedStores
+pub mod TypedLaws

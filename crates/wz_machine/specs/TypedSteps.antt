@@ -1,5 +1,5 @@
--- Section 7.5 of the Core Specification (soundness, in the appendix): preservation and progress, for a step of a term, and for any move from
--- outside: the typing is kept, and nothing is stuck.
+-- Section 7.5 of the Core Specification (soundness, in the appendix): what a typed state may change by, and what a step of a typed term and
+-- a move from outside come to. To be stuck is none of it.
 use Rattle.std.specs.Prelude.{◌≡◌, ◌≤◌, ◌<◌, ◌^◌, ◌+◌, List, [], ◌∷◌, Some, slice_get, length}
 use Rattle.wz_types.specs.declared.types.ValType.{ValType}
 use Rattle.wz_types.specs.declared.value.Value.TheVariants.{Ref}
@@ -7,14 +7,10 @@ use Rattle.wz_types.specs.Fits.{type_of_kind}
 use Rattle.wz_store.specs.State.{Global, Table, Memory, pages_of}
 use Rattle.wz_store.specs.Changes.{Change, Nothing, SetGlobal, WriteTable, WriteMemory, GrowTable, GrowMemory, EmptyElement, EmptyData, applied}
 use Rattle.wz_machine.specs.State.{State}
-use Rattle.wz_machine.specs.Terms.{Term, Standing}
 use Rattle.wz_machine.specs.Outcomes.{Answer, Next, Done, Trap, Ask, Stuck}
-use Rattle.wz_machine.specs.Step.{step}
-use Rattle.wz_machine.specs.Exports.{ExportInstance}
-use Rattle.wz_machine.specs.Moves.{Move, Event, Refused, Went, DoneEvent, Trapped, HostCall, FloatAsked, GrowAsked, StuckEvent, BytesRead, HeldSize, HeldValue}
+use Rattle.wz_machine.specs.Moves.{Event, Refused, Went, DoneEvent, Trapped, HostCall, FloatAsked, GrowAsked, StuckEvent, BytesRead, HeldSize, HeldValue}
 use Rattle.wz_machine.specs.Replies.{Reply}
-use Rattle.wz_machine.specs.Sessions.{move_reply, observe}
-use Rattle.wz_machine.specs.TypedState.{state_context, HasType, HaveKind, HoldsBytes, IsStateTyped}
+use Rattle.wz_machine.specs.TypedState.{state_context, HasType, HaveKind, HoldsBytes}
 use Rattle.wz_machine.specs.TypedTerms.{HaveTypes, as_operands, IsTermTyped, IsWaitingTyped, IsMachineTyped}
 
 -- ---- changes
@@ -37,11 +33,6 @@ IsChangeTyped s (GrowMemory index pages) =
 IsChangeTyped s (EmptyElement index) = Unit {0}
 IsChangeTyped s (EmptyData index) = Unit {0}
 
--- such a change keeps a state typed
-abbrev pub ChangeKeepsTyping : Type 0
-ChangeKeepsTyping = (s : State) (change : Change) → IsStateTyped (state_context s) s → IsChangeTyped s change
-    → IsStateTyped (state_context (applied change s)) (applied change s)
-
 -- ---- steps
 
 -- what a step of a term that gives these results comes to; to be stuck is no such answer
@@ -51,11 +42,6 @@ IsAnswerTyped s results (Done values) = HaveTypes (state_context s) values (as_o
 IsAnswerTyped s results (Trap kind) = Unit {0}
 IsAnswerTyped s results (Ask question rest) = IsWaitingTyped (state_context s) question rest results
 IsAnswerTyped s results Stuck = ⊥
-
--- a step of a typed term in a typed state keeps the typing, and isn't stuck
-abbrev pub StepKeepsTyping : Type 0
-StepKeepsTyping = (s : State) (term : Term) (results : List ValType) → IsStateTyped (state_context s) s → IsTermTyped (state_context s) term results
-    → IsAnswerTyped s results (step s term)
 
 -- ---- moves
 
@@ -78,17 +64,6 @@ pub record IsReplyTyped (s : State) (reply : Reply) : Type 0 where
   pub machine : IsMachineTyped (applied reply.change s) reply.stack
   pub event : IsNotStuck reply.event
 
--- any move keeps the typing, and isn't stuck
-abbrev pub MoveKeepsTyping : Type 0
-MoveKeepsTyping = (exports : List ExportInstance) (s : State) (stack : List Standing) (move : Move) → IsMachineTyped s stack
-    → IsReplyTyped s (move_reply exports s stack move)
-
--- ---- sessions
-
 abbrev pub NoneStuck : List Event → Type 0
 NoneStuck [] = Unit {0}
 NoneStuck (event ∷ events) = IsNotStuck event × NoneStuck events
-
--- no event of any list of moves from a typed state is stuck
-abbrev pub NeverStuck : Type 0
-NeverStuck = (s : State) (exports : List ExportInstance) (moves : List Move) → IsStateTyped (state_context s) s → NoneStuck (observe s exports moves)

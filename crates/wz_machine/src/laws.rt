@@ -7,7 +7,9 @@ ghost use Rattle.wz_machine.specs.Flat.{LeavingTerm, LoopingTerm};
 ghost use Rattle.wz_machine.specs.Laws.{LeafReads, StepReads, MemoryGrowthReads, TableGrowthReads};
 ghost use Rattle.wz_machine.specs.Laws.{ChangeKeeps, ChangeReachesState, StepAddsNone, StepNames};
 ghost use Rattle.wz_machine.specs.Laws.{LeafSame, StepSame, ObservesSame, TypedNames, ContextLasts};
-ghost use Rattle.wz_machine.specs.TypedSteps.{ChangeKeepsTyping, StepKeepsTyping, MoveKeepsTyping, NeverStuck};
+ghost use Rattle.wz_machine.specs.TypedLaws.{ChangeKeepsTyping, EntryIsTyped, StepKeepsTyping};
+ghost use Rattle.wz_machine.specs.TypedLaws.{ContentNeverSticks, MoveKeepsTyping, NeverStuck};
+ghost use Rattle.wz_machine.specs.TypedStores.{ValidFunctionsAreTyped};
 
 /// What an instruction or a step does rests on nothing of the state but types, functions and what
 /// it names; growth looks at the present size and the maximum alone.
@@ -66,20 +68,31 @@ pub fn flat_terms()
 {}
 
 /// The functions of a typed state name no segment that isn't there, and the context in which it
-/// is typed is the same after each change.
+/// is typed is the same after each change. What changes it keeps it typed; and functions that are
+/// valid in their module are typed in the state that a store and the module's bodies are.
 pub fn typed_states()
     ensures segments { TypedNames }
     ensures context { ContextLasts }
+    ensures changes { ChangeKeepsTyping }
+    ensures functions { ValidFunctionsAreTyped }
 {}
 
-/// A step of a typed term in a typed state keeps the typing and isn't stuck, what it changes keeps
-/// the state typed, and so does any move from outside; so no move of a session is ever stuck.
-pub fn never_stuck()
-    ensures changes { ChangeKeepsTyping }
+/// A call gives a typed term; a step of a typed term keeps the typing, and whatever stands in its
+/// labels and frames has a rule.
+pub fn typed_terms()
+    ensures entries { EntryIsTyped }
     ensures steps { StepKeepsTyping }
+    ensures contents { ContentNeverSticks }
+{
+    // a numeric operation answers operands of its types
+    wz_num::laws::operands_are_served();
+}
+
+/// Any move from outside keeps the typing, and no move of a session from a typed state is stuck.
+pub fn never_stuck()
     ensures moves { MoveKeepsTyping }
     ensures sessions { NeverStuck }
 {
-    // numeric operations answer the operands that they are given by their types
+    // a numeric operation answers operands of its types
     wz_num::laws::operands_are_served();
 }

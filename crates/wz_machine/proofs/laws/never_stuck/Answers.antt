@@ -1,13 +1,5 @@
-use Rattle.wz_machine.proofs.StuckChanges.{change_keeps_typing}
-use Rattle.wz_machine.proofs.StuckLeaves.{step_keeps_typing}
 use Rattle.wz_machine.proofs.StuckSessions.{move_keeps_typing, never_stuck}
 use Rattle.wz_machine.proofs.laws.never_stuck.Goals as goal
-
-pub returns-clause-changes : goal.returns-clause-changes
-returns-clause-changes c = change_keeps_typing
-
-pub returns-clause-steps : goal.returns-clause-steps
-returns-clause-steps c = step_keeps_typing c.operands_are_served.ensures
 
 pub returns-clause-moves : goal.returns-clause-moves
 returns-clause-moves c = move_keeps_typing c.operands_are_served.ensures
