@@ -26,7 +26,8 @@ AccessServes s access = IsChangeTyped s access.change × IsNotStuck access.event
 
 bytes-are : (bytes : List ℕ) → all_bytes bytes ≡ true → HoldsBytes bytes
 bytes-are [] h k byte e = absurd (cc e)
-bytes-are (b ∷ bytes) h zero byte e = let r = and_parts (nat_lt b 256) (all_bytes bytes) h in let lt = ltb-true b 256 r.0 in let same : b ≡ byte = cc e in omega (arith, lt, same)
+bytes-are (b ∷ bytes) h zero byte e =
+    let r = and_parts (nat_lt b 256) (all_bytes bytes) h in let lt = ltb-true b 256 r.0 in let same : b ≡ byte = cc e in omega (arith, lt, same)
 bytes-are (b ∷ bytes) h (suc k) byte e = bytes-are bytes (and_parts (nat_lt b 256) (all_bytes bytes) h).1 k byte e
 
 module _ (s : State) (typed : IsStateTyped (state_context s) s) where
@@ -35,14 +36,22 @@ module _ (s : State) (typed : IsStateTyped (state_context s) s) where
   read-serves : (at count : ℕ) (memory : Option Memory) → AccessServes s (memory_read at count memory)
   read-serves at count None = (tt, tt)
   read-serves at count (Some memory) =
-      if-both (λ (a : AccessReply). AccessServes s a) (nat_le (at + count) (length memory.bytes)) (sees (BytesRead (part memory.bytes at count))) no_access (tt, tt) (tt, tt)
+      if-both (λ (a : AccessReply). AccessServes s a) (nat_le (at + count) (length memory.bytes)) (sees (BytesRead (part memory.bytes at count))) no_access (tt, tt)
+      (tt, tt)
 
   write-serves : (index at : ℕ) (bytes : List ℕ) (memory : Option Memory) → slice_get s.memories index ≡ memory → AccessServes s (memory_write index at bytes memory)
   write-serves index at bytes None is = (tt, tt)
   write-serves index at bytes (Some memory) is =
-      if-tested (λ (a : AccessReply). AccessServes s a) (nat_le (at + length bytes) (length memory.bytes) && all_bytes bytes) (makes Went (WriteMemory index at bytes)) no_access
-      (λ test. let r = and_parts (nat_le (at + length bytes) (length memory.bytes)) (all_bytes bytes) test in
-      ((bytes-are bytes r.1, λ other is_other. let same : memory ≡ other = cc in subst (λ (m : Memory). at + length bytes ≤ length m.bytes) same (leb-true (at + length bytes) (length memory.bytes) r.0)), tt)) (tt, tt)
+      if-tested (λ (a : AccessReply). AccessServes s a) (nat_le (at + length bytes) (length memory.bytes) && all_bytes bytes)
+      (makes Went (WriteMemory index at bytes)) no_access
+      (λ test. let r = and_parts (nat_le (at + length bytes) (length memory.bytes)) (all_bytes bytes) test in (
+        (
+          bytes-are bytes r.1,
+          λ other is_other. let same : memory ≡ other = cc in
+              subst (λ (m : Memory). at + length bytes ≤ length m.bytes) same (leb-true (at + length bytes) (length memory.bytes) r.0),
+        ),
+        tt,
+      )) (tt, tt)
 
   pages-seen : (memory : Option Memory) → AccessServes s (memory_pages memory)
   pages-seen None = (tt, tt)
@@ -55,12 +64,15 @@ module _ (s : State) (typed : IsStateTyped (state_context s) s) where
   memory_enlarged-serves : (index by : ℕ) (memory : Option Memory) → slice_get s.memories index ≡ memory → AccessServes s (memory_enlarged index by memory)
   memory_enlarged-serves index by None is = (tt, tt)
   memory_enlarged-serves index by (Some memory) is =
-      if-tested (λ (a : AccessReply). AccessServes s a) (may_grow (pages_of memory) memory.maximum by) (makes (HeldSize (pages_of memory)) (GrowMemory index by)) no_access (λ test. (pages-serve s typed index by memory is test, tt)) (tt, tt)
+      if-tested (λ (a : AccessReply). AccessServes s a) (may_grow (pages_of memory) memory.maximum by)
+      (makes (HeldSize (pages_of memory)) (GrowMemory index by)) no_access (λ test. (pages-serve s typed index by memory is test, tt)) (tt, tt)
 
-  table_enlarged-serves : (index by : ℕ) (reference : Reference) (table : Option Table) → slice_get s.tables index ≡ table → AccessServes s (table_enlarged s index by reference table)
+  table_enlarged-serves : (index by : ℕ) (reference : Reference) (table : Option Table) → slice_get s.tables index ≡ table
+      → AccessServes s (table_enlarged s index by reference table)
   table_enlarged-serves index by reference None is = (tt, tt)
   table_enlarged-serves index by reference (Some table) is =
-      if-tested (λ (a : AccessReply). AccessServes s a) (may_extend (length table.entries) table.maximum by && fits_in s (Ref reference) (type_of_kind table.kind)) (makes (HeldSize (length table.entries)) (GrowTable index by reference)) no_access
+      if-tested (λ (a : AccessReply). AccessServes s a) (may_extend (length table.entries) table.maximum by && fits_in s (Ref reference) (type_of_kind table.kind))
+      (makes (HeldSize (length table.entries)) (GrowTable index by reference)) no_access
       (λ test. let r = and_parts (may_extend (length table.entries) table.maximum by) (fits_in s (Ref reference) (type_of_kind table.kind)) test in
       (entries-serve s typed index by reference table is r.0 (fits-type s typed (Ref reference) (type_of_kind table.kind) r.1), tt)) (tt, tt)
 
@@ -72,8 +84,11 @@ module _ (s : State) (typed : IsStateTyped (state_context s) s) where
   set_global-serves index value None is = (tt, tt)
   set_global-serves index value (Some global) is =
       if-tested (λ (a : AccessReply). AccessServes s a) (global.type.mutable && fits_in s value global.type.value) (makes Went (SetGlobal index value)) no_access
-      (λ test. let r = and_parts global.type.mutable (fits_in s value global.type.value) test in
-      ((λ other is_other. let same : global ≡ other = cc in subst (λ (g : Global). HasType (state_context s) value g.type.value) same (fits-type s typed value global.type.value r.1)), tt)) (tt, tt)
+      (λ test. let r = and_parts global.type.mutable (fits_in s value global.type.value) test in (
+        (λ other is_other. let same : global ≡ other = cc in subst (λ (g : Global). HasType (state_context s) value g.type.value) same
+            (fits-type s typed value global.type.value r.1)),
+        tt,
+      )) (tt, tt)
 
   entry-seen : (o : Option Reference) → AccessServes s (entry_content o)
   entry-seen None = (tt, tt)
@@ -83,10 +98,12 @@ module _ (s : State) (typed : IsStateTyped (state_context s) s) where
   entry-serves at None = (tt, tt)
   entry-serves at (Some table) = entry-seen (slice_get table.entries at)
 
-  set_entry-serves : (index at : ℕ) (reference : Reference) (table : Option Table) → slice_get s.tables index ≡ table → AccessServes s (entry_set s index at reference table)
+  set_entry-serves : (index at : ℕ) (reference : Reference) (table : Option Table) → slice_get s.tables index ≡ table
+      → AccessServes s (entry_set s index at reference table)
   set_entry-serves index at reference None is = (tt, tt)
   set_entry-serves index at reference (Some table) is =
-      if-tested (λ (a : AccessReply). AccessServes s a) (nat_lt at (length table.entries) && fits_in s (Ref reference) (type_of_kind table.kind)) (makes Went (WriteTable index at (reference ∷ []))) no_access
+      if-tested (λ (a : AccessReply). AccessServes s a) (nat_lt at (length table.entries) && fits_in s (Ref reference) (type_of_kind table.kind))
+      (makes Went (WriteTable index at (reference ∷ []))) no_access
       (λ test. let r = and_parts (nat_lt at (length table.entries)) (fits_in s (Ref reference) (type_of_kind table.kind)) test in
       let lt = ltb-true at (length table.entries) r.0 in (
         (λ other is_other. let same : table ≡ other = cc in

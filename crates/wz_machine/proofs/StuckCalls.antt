@@ -62,7 +62,8 @@ module _ (s : State) (typed : IsStateTyped (state_context s) s) where
       × (callable_at s.types s.functions index ≡ Some (record { type = type; body = function.body }))
   callable_at-there index function is = by (slice_get s.types function.signature) refl (typed.functions index function is)
     where
-      of-body : (type : FunctionType) (body : FunctionBody) → BodyTyped (state_context s) type body → callable_of (Some type) body ≡ Some (record { type = type; body = body })
+      of-body : (type : FunctionType) (body : FunctionBody) → BodyTyped (state_context s) type body
+          → callable_of (Some type) body ≡ Some (record { type = type; body = body })
       of-body type (OwnBody locals code) h = refl
       of-body type (ImportedBody number) h = refl
       of-body type NoBody h = absurd h
@@ -75,19 +76,23 @@ module _ (s : State) (typed : IsStateTyped (state_context s) s) where
         type,
         same,
         h,
-        ap (λ (o : Option FunctionInstance). callable_from s.types o) is ∙ ap (λ (o : Option FunctionType). callable_of o function.body) same ∙ of-body type function.body h,
+        ap (λ (o : Option FunctionInstance). callable_from s.types o) is ∙ ap
+            (λ (o : Option FunctionType). callable_of o function.body) same ∙ of-body type function.body h,
       )
 
   module _ (types returns : List ValType) (labels : Labels) where
     -- arguments that are taken are locals in the order of pushing
-    arguments-serve : (params : List ValType) (values : List Value) → Offered (state_context s) (reverse params) values → HaveTypes (state_context s) (reverse (take (length params) values)) (as_operands params)
+    arguments-serve : (params : List ValType) (values : List Value) → Offered (state_context s) (reverse params) values
+        → HaveTypes (state_context s) (reverse (take (length params) values)) (as_operands params)
     arguments-serve params values off =
-        let front = subst (λ (n : ℕ). HaveTypes (state_context s) (take n values) (as_operands (reverse params))) (length-reverse params) (offered-front (state_context s) (reverse params) values off) in
+        let front = subst (λ (n : ℕ). HaveTypes (state_context s) (take n values) (as_operands (reverse params))) (length-reverse params)
+        (offered-front (state_context s) (reverse params) values off) in
         subst (λ (x : List ValType). HaveTypes (state_context s) (reverse (take (length params) values)) (as_operands x)) (reverse-reverse params)
         (stand-reverse (state_context s) (take (length params) values) (reverse params) front)
 
     -- a call with as many arguments as there are parameters
-    with-serves : (type : FunctionType) (call : List Value → List Value → Outcome) (values : List Value) (below next : Operands) → Offered (state_context s) (reverse type.params) values
+    with-serves : (type : FunctionType) (call : List Value → List Value → Outcome) (values : List Value) (below next : Operands)
+        → Offered (state_context s) (reverse type.params) values
         → HaveTypes (state_context s) (drop (length (reverse type.params)) values) below
         → ((arguments left : List Value) → HaveTypes (state_context s) arguments (as_operands type.params) → HaveTypes (state_context s) left below
         → OutcomeServes s (scope_in s types returns) labels next (call arguments left))
@@ -130,7 +135,8 @@ module _ (s : State) (typed : IsStateTyped (state_context s) s) where
         → OutcomeServes s (scope_in s types returns) labels next (call_step (callable_at s.types s.functions index) values)
     direct-serves index values before next h st =
         by (slice_get s.functions index) refl
-        (subst (λ (o : Option ℕ). Leads (rule_from (type_by_number (state_context s) o) (λ type. Exchange type.params type.results)) before next) (slice_get-map (λ (function : FunctionInstance). function.signature) s.functions index) h)
+        (subst (λ (o : Option ℕ). Leads (rule_from (type_by_number (state_context s) o) (λ type. Exchange type.params type.results)) before next)
+        (slice_get-map (λ (function : FunctionInstance). function.signature) s.functions index) h)
       where
         by : (o : Option FunctionInstance) → slice_get s.functions index ≡ o
             → Leads (rule_from (type_by_number (state_context s) (option_map (λ (function : FunctionInstance). function.signature) o)) (λ type. Exchange type.params type.results)) before next
@@ -139,10 +145,12 @@ module _ (s : State) (typed : IsStateTyped (state_context s) s) where
         by (Some function) is l =
             let r = callable_at-there index function is in
             let type : FunctionType = r.0 in
-            let leads : Leads (Exchange type.params type.results) before next = subst (λ (o : Option FunctionType). Leads (rule_from o (λ type. Exchange type.params type.results)) before next) r.1 l in
+            let leads : Leads (Exchange type.params type.results) before next = subst
+            (λ (o : Option FunctionType). Leads (rule_from o (λ type. Exchange type.params type.results)) before next) r.1 l in
             let t = stand-taken (state_context s) (reverse type.params) values before leads.0 leads.1 st in
             subst (λ (o : Option Callable). OutcomeServes s (scope_in s types returns) labels next (call_step o values)) (sym r.3)
-            (subst (λ (x : Operands). OutcomeServes s (scope_in s types returns) labels x (call_step (Some (record { type = type; body = function.body })) values)) (sym leads.2)
+            (subst (λ (x : Operands). OutcomeServes s (scope_in s types returns) labels x (call_step (Some (record { type = type; body = function.body })) values))
+            (sym leads.2)
             (call-serves type function.body values leads.0 r.2 t.0 t.1))
 
     -- ---- call_indirect
@@ -157,7 +165,8 @@ module _ (s : State) (typed : IsStateTyped (state_context s) s) where
               → OutcomeServes s (scope_in s types returns) labels (pushed type.results below) (if b then call_step (Some (record { type = found; body = body })) values else Does (Fails trap.IndirectType))
           by true e =
               let same : found ≡ type = same_function_type-true found type e in
-              subst (λ (t : FunctionType). OutcomeServes s (scope_in s types returns) labels (pushed type.results below) (call_step (Some (record { type = t; body = body })) values)) (sym same)
+              subst (λ (t : FunctionType). OutcomeServes s (scope_in s types returns) labels (pushed type.results below)
+              (call_step (Some (record { type = t; body = body })) values)) (sym same)
               (call-serves type body values below (subst (λ (t : FunctionType). BodyTyped (state_context s) t body) same h) off st)
           by false e = tt
 
@@ -166,12 +175,14 @@ module _ (s : State) (typed : IsStateTyped (state_context s) s) where
           with-serves type (λ arguments left. Does (Poses (AskHost (target.Foreign id) arguments type) left)) values below (pushed type.results below) off st
           (λ arguments left fit stands. (below, stands, refl, tt))
 
-      foreign-serves : (id : ℕ) (actual : FunctionType) → OutcomeServes s (scope_in s types returns) labels (pushed type.results below) (foreign_call type id (Some actual) values)
+      foreign-serves : (id : ℕ) (actual : FunctionType)
+          → OutcomeServes s (scope_in s types returns) labels (pushed type.results below) (foreign_call type id (Some actual) values)
       foreign-serves id actual =
           if-both (λ (o : Outcome). OutcomeServes s (scope_in s types returns) labels (pushed type.results below) o) (same_function_type actual type)
           (host_call type id values) (Does (Fails trap.IndirectType)) (host-serves id) tt
 
-      sort-serves : (id : ℕ) (sort : Sort) → HasType (state_context s) (Ref (Foreign id sort)) valtype.FuncRef → OutcomeServes s (scope_in s types returns) labels (pushed type.results below) (sort_call s.types type id sort values)
+      sort-serves : (id : ℕ) (sort : Sort) → HasType (state_context s) (Ref (Foreign id sort)) valtype.FuncRef
+          → OutcomeServes s (scope_in s types returns) labels (pushed type.results below) (sort_call s.types type id sort values)
       sort-serves id sort.Extern h = absurd (cc h)
       sort-serves id (sort.Func number) h = (let r = found-at s.types number (ltb-true number (length s.types) h) in
           subst (λ (o : Option FunctionType). OutcomeServes s (scope_in s types returns) labels (pushed type.results below) (foreign_call type id o values)) (sym r.1)
@@ -183,27 +194,33 @@ module _ (s : State) (typed : IsStateTyped (state_context s) s) where
       entry-serves None h = tt
       entry-serves (Some (Null kind)) h = tt
       entry-serves (Some (Fn index)) h =
-          let within : index < length s.functions = subst (λ (n : ℕ). index < n) (length-map s.functions (λ function. function.signature)) (ltb-true index (length (state_context s).functions) (h (Fn index) refl)) in
+          let within : index < length s.functions = subst (λ (n : ℕ). index < n) (length-map s.functions (λ function. function.signature))
+          (ltb-true index (length (state_context s).functions) (h (Fn index) refl)) in
           let f = found-at s.functions index within in
           let r = callable_at-there index f.0 f.1 in
-          subst (λ (o : Option Callable). OutcomeServes s (scope_in s types returns) labels (pushed type.results below) (expected_call type o values)) (sym r.3) (expected-serves r.0 f.0.body r.2)
+          subst (λ (o : Option Callable). OutcomeServes s (scope_in s types returns) labels (pushed type.results below) (expected_call type o values)) (sym r.3)
+          (expected-serves r.0 f.0.body r.2)
       entry-serves (Some (Foreign id sort)) h = sort-serves id sort (h (Foreign id sort) refl)
 
     functions-kind : (kind : RefKind) → is_function_kind (Some kind) ≡ true → type_of_kind kind ≡ valtype.FuncRef
     functions-kind kind.Func h = refl
     functions-kind kind.Extern h = absurd (cc h)
 
-    called-serves : (type : FunctionType) (index : ℕ) (table : Table) (values : List Value) (before next : Operands) → slice_get s.tables index ≡ Some table → is_function_kind (Some table.kind) ≡ true
+    called-serves : (type : FunctionType) (index : ℕ) (table : Table) (values : List Value) (before next : Operands) → slice_get s.tables index ≡ Some table
+        → is_function_kind (Some table.kind) ≡ true
         → Leads (Exchange (type.params ++ valtype.I32 ∷ []) type.results) before next → HaveTypes (state_context s) values before
         → OutcomeServes s (scope_in s types returns) labels next (call_indirect_step s.types s.functions (Some type) (Some table) values)
     called-serves type index table values before next is functions (below, takes, leads) st =
         let asked : reverse (type.params ++ valtype.I32 ∷ []) ≡ valtype.I32 ∷ reverse type.params = reverse-append type.params (valtype.I32 ∷ []) in
-        let r = stand-taken (state_context s) (valtype.I32 ∷ reverse type.params) values before below (subst (λ (x : List ValType). Takes x before below) asked takes) st in
+        let r = stand-taken (state_context s) (valtype.I32 ∷ reverse type.params) values before below
+        (subst (λ (x : List ValType). Takes x before below) asked takes) st in
         subst (λ (x : Operands). OutcomeServes s (scope_in s types returns) labels x (call_indirect_step s.types s.functions (Some type) (Some table) values)) (sym leads)
-        (take-i32 (state_context s) (λ vs. HaveTypes (state_context s) (drop (suc (length (reverse type.params))) vs) below → OutcomeServes s (scope_in s types returns) labels (pushed type.results below) (call_indirect_step s.types s.functions (Some type) (Some table) vs))
+        (take-i32 (state_context s) (λ vs. HaveTypes (state_context s) (drop (suc (length (reverse type.params))) vs) below
+        → OutcomeServes s (scope_in s types returns) labels (pushed type.results below) (call_indirect_step s.types s.functions (Some type) (Some table) vs))
         (reverse type.params)
         (λ at vs fit off st. entry-serves type vs below off st (slice_get table.entries at)
-        (λ reference e. subst (λ (t : ValType). HasType (state_context s) (Ref reference) t) (functions-kind table.kind functions) (typed.tables index table is at reference e))) values r.0 r.1)
+        (λ reference e. subst (λ (t : ValType). HasType (state_context s) (Ref reference) t) (functions-kind table.kind functions)
+        (typed.tables index table is at reference e))) values r.0 r.1)
 
     pub indirect-serves : (signature index : ℕ) (values : List Value) (before next : Operands)
         → Leads (rule_if (is_function_kind (slice_get (state_context s).tables index)) (rule_from (slice_get s.types signature) (λ type. Exchange (type.params ++ valtype.I32 ∷ []) type.results))) before next
@@ -211,9 +228,11 @@ module _ (s : State) (typed : IsStateTyped (state_context s) s) where
         → OutcomeServes s (scope_in s types returns) labels next (call_indirect_step s.types s.functions (slice_get s.types signature) (slice_get s.tables index) values)
     indirect-serves signature index values before next h st =
         let r = if-passed _ _ _ _ h in
-        by (slice_get s.types signature) (slice_get s.tables index) refl (subst (λ (o : Option RefKind). is_function_kind o ≡ true) (slice_get-map (λ (table : Table). table.kind) s.tables index) r.0) r.1
+        by (slice_get s.types signature) (slice_get s.tables index) refl
+        (subst (λ (o : Option RefKind). is_function_kind o ≡ true) (slice_get-map (λ (table : Table). table.kind) s.tables index) r.0) r.1
       where
-        by : (type : Option FunctionType) (table : Option Table) → slice_get s.tables index ≡ table → is_function_kind (option_map (λ (table : Table). table.kind) table) ≡ true
+        by : (type : Option FunctionType) (table : Option Table) → slice_get s.tables index ≡ table
+            → is_function_kind (option_map (λ (table : Table). table.kind) table) ≡ true
             → Leads (rule_from type (λ type. Exchange (type.params ++ valtype.I32 ∷ []) type.results)) before next
             → OutcomeServes s (scope_in s types returns) labels next (call_indirect_step s.types s.functions type table values)
         by None table is f l = absurd l

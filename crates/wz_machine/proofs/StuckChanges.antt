@@ -31,7 +31,15 @@ each-altered {A = A} P alter xs i each here k y h = by (get-altered alter xs i k
 
 length-overwritten : (xs : List Reference) (at : ℕ) (new : List Reference) → at + length new ≤ length xs → length (overwritten xs at new) ≡ length xs
 length-overwritten xs at new le =
-    omega (arith, length-append (take at xs) (new ++ drop (at + length new) xs), length-append new (drop (at + length new) xs), length-take at xs, length-drop (at + length new) xs, le)
+    omega (
+      arith,
+      length-append (take at xs) (new ++ drop (at + length new) xs),
+      length-append new (drop (at + length new) xs),
+      length-take at xs,
+      length-drop
+          (at + length new) xs,
+      le,
+    )
 
 bytes-written : (bytes : List ℕ) (at : ℕ) (new : List ℕ) → HoldsBytes bytes → HoldsBytes new → HoldsBytes (written bytes at new)
 bytes-written bytes at new one other =
@@ -87,7 +95,8 @@ kept-in s (WriteMemory index at bytes) t c = record {
   globals = t.globals;
   tables = t.tables;
   elements = t.elements;
-  memories = each-altered (λ (m : Memory). HoldsBytes m.bytes) (λ m. with_bytes at bytes m) s.memories index t.memories (λ m is old. bytes-written m.bytes at bytes old c.0);
+  memories =
+      each-altered (λ (m : Memory). HoldsBytes m.bytes) (λ m. with_bytes at bytes m) s.memories index t.memories (λ m is old. bytes-written m.bytes at bytes old c.0);
   datas = t.datas;
   pages = each-altered (λ (m : Memory). pages_of m < 2 ^ 32) (λ m. with_bytes at bytes m) s.memories index t.pages
       (λ m is old. subst (λ (n : ℕ). n / page_size < 2 ^ 32) (sym (length-written m.bytes at bytes (c.1 m is))) old);
@@ -99,7 +108,8 @@ kept-in s (GrowMemory index pages) t c = record {
   tables = t.tables;
   elements = t.elements;
   memories = each-altered (λ (m : Memory). HoldsBytes m.bytes) (λ m. with_more_pages pages m) s.memories index t.memories
-      (λ m is old. each-join (λ byte. byte < 256) m.bytes (replicate (pages * page_size) 0) old (λ k byte e. let same = each-same 0 (pages * page_size) k byte e in omega (arith, same)));
+      (λ m is old. each-join (λ byte. byte < 256) m.bytes (replicate (pages * page_size) 0) old
+      (λ k byte e. let same = each-same 0 (pages * page_size) k byte e in omega (arith, same)));
   datas = t.datas;
   pages = each-altered (λ (m : Memory). pages_of m < 2 ^ 32) (λ m. with_more_pages pages m) s.memories index t.pages
       (λ m is old. subst (λ (n : ℕ). n < 2 ^ 32) (sym (more-pages m pages)) (c m is));
@@ -109,7 +119,8 @@ kept-in s (EmptyElement index) t c = record {
   functions = t.functions;
   globals = t.globals;
   tables = t.tables;
-  elements = each-altered (λ (e : Element). HaveKind (state_context s) e.kind e.items) (λ e. without_items e) s.elements index t.elements (λ e is old k r h. absurd (cc h));
+  elements =
+      each-altered (λ (e : Element). HaveKind (state_context s) e.kind e.items) (λ e. without_items e) s.elements index t.elements (λ e is old k r h. absurd (cc h));
   memories = t.memories;
   datas = t.datas;
   pages = t.pages;

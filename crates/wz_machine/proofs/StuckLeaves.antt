@@ -62,7 +62,8 @@ kind-cases {X = X} {Y = Y} view seen xs ys i j P h use_it =
     (λ y is_y. let one : slice_get (map view xs) i ≡ Some (view x) = slice_get-map view xs i ∙ ap (λ (o : Option X). option_map view o) is in
     let other : slice_get (map seen ys) j ≡ Some (seen y) = slice_get-map seen ys j ∙ ap (λ (o : Option Y). option_map seen o) is_y in
     use_it x y is is_y (same_kind-true (view x) (seen y)
-    (subst (λ (o : Option RefKind). is_one_kind (Some (view x)) o ≡ true) other (subst (λ (o : Option RefKind). is_one_kind o (slice_get (map seen ys) j) ≡ true) one h)))))
+    (subst (λ (o : Option RefKind). is_one_kind (Some (view x)) o ≡ true) other
+    (subst (λ (o : Option RefKind). is_one_kind o (slice_get (map seen ys) j) ≡ true) one h)))))
 
 same-kinds : (one other : RefKind) → one ≡ other → same_kind one other ≡ true
 same-kinds one other e = subst (λ (k : RefKind). same_kind one k ≡ true) e (same_kind-itself one)
@@ -98,17 +99,22 @@ module _ (s : State) (typed : IsStateTyped (state_context s) s) (numbers : Numbe
     instr-serves (instr.LocalSet index) values before next h st = set_local-serves s typed types returns labels locals stands index values before next h st
     instr-serves (instr.LocalTee index) values before next h st = tee-serves s typed types returns labels locals stands index values before next h st
     instr-serves (instr.GlobalGet index) values before next h st =
-        rule-cases (λ (global : Global). global.type) s.globals index (λ type. Exchange [] (type.value ∷ [])) (λ o. EffectServes s next (global_get_step o values)) before next h
+        rule-cases (λ (global : Global). global.type) s.globals index (λ type. Exchange [] (type.value ∷ []))
+        (λ o. EffectServes s next (global_get_step o values)) before next h
         (λ global is l. by-rule s (λ vs. Yields Nothing (global.content ∷ vs)) [] (global.type.value ∷ []) values before next
         (push-serves s typed global.content global.type.value (typed.globals index global is)) l st)
     instr-serves (instr.GlobalSet index) values before next h st = global_set-serves s typed index values before next h st
     -- 4.4.6 table instructions
     instr-serves (instr.TableGet index) values before next h st =
-        rule-cases (λ (t : Table). t.kind) s.tables index (λ kind. Exchange (valtype.I32 ∷ []) (type_of_kind kind ∷ [])) (λ o. EffectServes s next (table_get_step o values)) before next h
-        (λ t is l. by-rule s (λ vs. table_get_step (Some t) vs) (valtype.I32 ∷ []) (type_of_kind t.kind ∷ []) values before next (tables.get-serves s typed index t is) l st)
+        rule-cases (λ (t : Table). t.kind) s.tables index (λ kind. Exchange (valtype.I32 ∷ []) (type_of_kind kind ∷ []))
+        (λ o. EffectServes s next (table_get_step o values)) before next h
+        (λ t is l. by-rule s (λ vs. table_get_step (Some t) vs) (valtype.I32 ∷ []) (type_of_kind t.kind ∷ []) values before next
+        (tables.get-serves s typed index t is) l st)
     instr-serves (instr.TableSet index) values before next h st =
-        rule-cases (λ (t : Table). t.kind) s.tables index (λ kind. Exchange (valtype.I32 ∷ type_of_kind kind ∷ []) []) (λ o. EffectServes s next (table_set_step index o values)) before next h
-        (λ t is l. by-rule s (λ vs. table_set_step index (Some t) vs) (valtype.I32 ∷ type_of_kind t.kind ∷ []) [] values before next (tables.set-serves s typed index t is) l st)
+        rule-cases (λ (t : Table). t.kind) s.tables index (λ kind. Exchange (valtype.I32 ∷ type_of_kind kind ∷ []) [])
+        (λ o. EffectServes s next (table_set_step index o values)) before next h
+        (λ t is l. by-rule s (λ vs. table_set_step index (Some t) vs) (valtype.I32 ∷ type_of_kind t.kind ∷ []) [] values before next
+        (tables.set-serves s typed index t is) l st)
     instr-serves (instr.TableSize index) values before next h st =
         let r = if-passed _ _ _ _ h in
         view-cases (λ (t : Table). t.kind) s.tables index (λ o. EffectServes s next (table_size_step o values)) r.0
@@ -116,11 +122,13 @@ module _ (s : State) (typed : IsStateTyped (state_context s) s) (numbers : Numbe
     instr-serves (instr.TableGrow index) values before next h st =
         rule-cases (λ (t : Table). t.kind) s.tables index (λ kind. Exchange (type_of_kind kind ∷ valtype.I32 ∷ []) (valtype.I32 ∷ []))
         (λ o. EffectServes s next (table_grow_step index o values)) before next h
-        (λ t is l. by-rule s (λ vs. table_grow_step index (Some t) vs) (type_of_kind t.kind ∷ valtype.I32 ∷ []) (valtype.I32 ∷ []) values before next (tables.grow-serves s typed index t is) l st)
+        (λ t is l. by-rule s (λ vs. table_grow_step index (Some t) vs) (type_of_kind t.kind ∷ valtype.I32 ∷ []) (valtype.I32 ∷ []) values before next
+        (tables.grow-serves s typed index t is) l st)
     instr-serves (instr.TableFill index) values before next h st =
         rule-cases (λ (t : Table). t.kind) s.tables index (λ kind. Exchange (valtype.I32 ∷ type_of_kind kind ∷ valtype.I32 ∷ []) [])
         (λ o. EffectServes s next (table_fill_step index o values)) before next h
-        (λ t is l. by-rule s (λ vs. table_fill_step index (Some t) vs) (valtype.I32 ∷ type_of_kind t.kind ∷ valtype.I32 ∷ []) [] values before next (tables.fill-serves s typed index t is) l st)
+        (λ t is l. by-rule s (λ vs. table_fill_step index (Some t) vs) (valtype.I32 ∷ type_of_kind t.kind ∷ valtype.I32 ∷ []) [] values before next
+        (tables.fill-serves s typed index t is) l st)
     instr-serves (instr.TableCopy index other) values before next h st =
         let r = if-passed _ _ _ _ h in
         kind-cases (λ (t : Table). t.kind) (λ (t : Table). t.kind) s.tables s.tables index other (λ t f. EffectServes s next (table_copy_step index t f values)) r.0
@@ -148,7 +156,8 @@ module _ (s : State) (typed : IsStateTyped (state_context s) s) (numbers : Numbe
     instr-serves (instr.MemoryGrow index) values before next h st =
         let r = if-passed _ _ _ _ h in
         item-cases s.memories index (λ o. EffectServes s next (memory_grow_step index o values)) (ltb-true index (length s.memories) r.0)
-        (λ m is. by-rule s (λ vs. memory_grow_step index (Some m) vs) (valtype.I32 ∷ []) (valtype.I32 ∷ []) values before next (memories.grow-serves s typed index m) r.1 st)
+        (λ m is. by-rule s (λ vs. memory_grow_step index (Some m) vs) (valtype.I32 ∷ []) (valtype.I32 ∷ []) values before next
+        (memories.grow-serves s typed index m) r.1 st)
     instr-serves (instr.MemoryFill index) values before next h st =
         let r = if-passed _ _ _ _ h in
         item-cases s.memories index (λ o. EffectServes s next (memory_fill_step index o values)) (ltb-true index (length s.memories) r.0)

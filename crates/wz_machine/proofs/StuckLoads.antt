@@ -87,19 +87,22 @@ pattern-of type (Ref reference) wide e =
 module _ (context : TypingContext) (shape : AccessShape) (fits : fits_value shape ≡ true) where
   loads-by : (bytes : List ℕ) (at : ℕ) → HoldsBytes bytes → (value : Value) × (read_value shape bytes at ≡ Some value) × HasType context value shape.value
   loads-by bytes at h =
-      let p = and_parts (nat_le (256 ^ shape.bytes) (2 ^ (8 * shape.bytes))) (nat_le (2 ^ (8 * shape.bytes)) (2 ^ bits_in shape.value) && nat_lt 0 (bits_in shape.value)) fits in
+      let p = and_parts (nat_le (256 ^ shape.bytes) (2 ^ (8 * shape.bytes)))
+      (nat_le (2 ^ (8 * shape.bytes)) (2 ^ bits_in shape.value) && nat_lt 0 (bits_in shape.value)) fits in
       let q = and_parts (nat_le (2 ^ (8 * shape.bytes)) (2 ^ bits_in shape.value)) (nat_lt 0 (bits_in shape.value)) p.1 in
       let read : ℕ = number_of (part bytes at shape.bytes) in
       let few : 256 ^ shape.bytes ≤ 2 ^ (8 * shape.bytes) = leb-true (256 ^ shape.bytes) (2 ^ (8 * shape.bytes)) p.0 in
       let le : 2 ^ (8 * shape.bytes) ≤ 2 ^ bits_in shape.value = leb-true (2 ^ (8 * shape.bytes)) (2 ^ bits_in shape.value) q.0 in
       let below : read < 256 ^ shape.bytes = part-below bytes at shape.bytes h in
       let lt : read < 2 ^ (8 * shape.bytes) = omega (arith, few, below) in
-      value-of context shape.value (extension shape.signed (8 * shape.bytes) (bits_in shape.value) (number_of (part bytes at shape.bytes))) (ltb-true 0 (bits_in shape.value) q.1)
+      value-of context shape.value (extension shape.signed (8 * shape.bytes) (bits_in shape.value) (number_of (part bytes at shape.bytes)))
+      (ltb-true 0 (bits_in shape.value) q.1)
       (extension-lt shape.signed (8 * shape.bytes) (bits_in shape.value) (number_of (part bytes at shape.bytes)) le lt)
 
   stores-by : (value : Value) → HasType context value shape.value → (bits : ℕ) × (bits_of_value shape.value value ≡ Some bits)
   stores-by value h =
-      let p = and_parts (nat_le (256 ^ shape.bytes) (2 ^ (8 * shape.bytes))) (nat_le (2 ^ (8 * shape.bytes)) (2 ^ bits_in shape.value) && nat_lt 0 (bits_in shape.value)) fits in
+      let p = and_parts (nat_le (256 ^ shape.bytes) (2 ^ (8 * shape.bytes)))
+      (nat_le (2 ^ (8 * shape.bytes)) (2 ^ bits_in shape.value) && nat_lt 0 (bits_in shape.value)) fits in
       let q = and_parts (nat_le (2 ^ (8 * shape.bytes)) (2 ^ bits_in shape.value)) (nat_lt 0 (bits_in shape.value)) p.1 in
       pattern-of shape.value value (ltb-true 0 (bits_in shape.value) q.1) (fits-parts value shape.value (length context.functions) (length context.types) h).has_type
 

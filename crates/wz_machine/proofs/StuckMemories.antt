@@ -38,7 +38,8 @@ module _ (s : State) (typed : IsStateTyped (state_context s) s) where
 
   pub grow-serves : (index : ℕ) (memory : Memory) → Serves s (λ vs. memory_grow_step index (Some memory) vs) (valtype.I32 ∷ []) (valtype.I32 ∷ [])
   grow-serves index memory values below off st =
-      take-i32 (state_context s) (λ vs. HaveTypes (state_context s) (drop 1 vs) below → EffectServes s (Some valtype.I32 ∷ below) (memory_grow_step index (Some memory) vs)) []
+      take-i32 (state_context s) (λ vs. HaveTypes (state_context s) (drop 1 vs) below
+      → EffectServes s (Some valtype.I32 ∷ below) (memory_grow_step index (Some memory) vs)) []
       (λ by vs lt off st. if-both (λ (e : Effect). EffectServes s (Some valtype.I32 ∷ below) e) (may_grow (pages_of memory) memory.maximum by)
       (Poses (AskMemory index by) vs) (Yields Nothing (minus_one ∷ vs)) (below, st, refl, tt) (tt, (refl, st))) values off st
 
@@ -94,8 +95,10 @@ module _ (s : State) (typed : IsStateTyped (state_context s) s) where
       let next : Operands = Some (shape_of op).value ∷ below in
       take-i32 (state_context s) (λ vs. HaveTypes (state_context s) (drop 1 vs) below → EffectServes s next (load_step (shape_of op) offset (Some memory) vs)) []
       (λ base vs lt off st. let r = loads (state_context s) op memory.bytes (base + offset) (typed.memories index memory is) in
-      subst (λ (o : Option Value). EffectServes s next (if nat_le (base + offset + (shape_of op).bytes) (length memory.bytes) then value_effect o vs else Fails MemoryBounds)) (sym r.1)
-      (if-both (λ (e : Effect). EffectServes s next e) (nat_le (base + offset + (shape_of op).bytes) (length memory.bytes)) (Yields Nothing (r.0 ∷ vs)) (Fails MemoryBounds)
+      subst (λ (o : Option Value). EffectServes s next (if nat_le (base + offset + (shape_of op).bytes)
+      (length memory.bytes) then value_effect o vs else Fails MemoryBounds)) (sym r.1)
+      (if-both (λ (e : Effect). EffectServes s next e) (nat_le (base + offset + (shape_of op).bytes) (length memory.bytes)) (Yields Nothing (r.0 ∷ vs))
+      (Fails MemoryBounds)
       (tt, (r.2, st)) tt)) values off st
 
   store-serves : (op : MemOp) (offset index : ℕ) (memory : Memory) → slice_get s.memories index ≡ Some memory
@@ -103,20 +106,30 @@ module _ (s : State) (typed : IsStateTyped (state_context s) s) where
   store-serves op offset index memory is [] below off st = absurd off
   store-serves op offset index memory is (value ∷ values) below off st =
       let r = stores (state_context s) op value off.0 in
-      take-i32 (state_context s) (λ vs. HaveTypes (state_context s) (drop 1 vs) below → EffectServes s below (store_step (shape_of op) offset index (Some memory) (value ∷ vs))) []
+      take-i32 (state_context s) (λ vs. HaveTypes (state_context s) (drop 1 vs) below
+      → EffectServes s below (store_step (shape_of op) offset index (Some memory) (value ∷ vs))) []
       (λ base vs lt off st. subst (λ (o : Option ℕ). EffectServes s below (write_effect (shape_of op) (base + offset) index memory o vs)) (sym r.1)
       (if-tested (λ (e : Effect). EffectServes s below e) (nat_le (base + offset + (shape_of op).bytes) (length memory.bytes))
       (Yields (WriteMemory index (base + offset) (bytes_of (shape_of op).bytes r.0)) vs) (Fails MemoryBounds)
-      (λ test. let le = leb-true (base + offset + (shape_of op).bytes) (length memory.bytes) test in let long = length-bytes_of (shape_of op).bytes r.0 in
-      ((bytes-of (shape_of op).bytes r.0, memory-write index (base + offset) (bytes_of (shape_of op).bytes r.0) memory is (omega (arith, le, long))), st)) tt)) values off.1 st
+      (λ test. let le = leb-true (base + offset + (shape_of op).bytes) (length memory.bytes) test in let long = length-bytes_of (shape_of op).bytes r.0 in (
+        (
+          bytes-of (shape_of op).bytes r.0,
+          memory-write index (base + offset) (bytes_of (shape_of op).bytes r.0) memory is
+              (omega (arith, le, long)),
+        ),
+        st,
+      )) tt)) values off.1 st
 
   pub access-serves : (op : MemOp) (offset index : ℕ) (memory : Memory) (values : List Value) (before next : Operands) → slice_get s.memories index ≡ Some memory
-      → Leads (access_rule (shape_of op)) before next → HaveTypes (state_context s) values before → EffectServes s next (access_step (shape_of op) offset index (Some memory) values)
+      → Leads (access_rule (shape_of op)) before next → HaveTypes (state_context s) values before
+      → EffectServes s next (access_step (shape_of op) offset index (Some memory) values)
   access-serves op offset index memory values before next is h st = by (shape_of op).store h
     where
       by : (b : Bool) → Leads (if b then Exchange (valtype.I32 ∷ (shape_of op).value ∷ []) [] else Exchange (valtype.I32 ∷ []) ((shape_of op).value ∷ [])) before next
           → EffectServes s next (if b then store_step (shape_of op) offset index (Some memory) values else load_step (shape_of op) offset (Some memory) values)
       by true l =
-          by-rule s (λ vs. store_step (shape_of op) offset index (Some memory) vs) (valtype.I32 ∷ (shape_of op).value ∷ []) [] values before next (store-serves op offset index memory is) l st
+          by-rule s (λ vs. store_step (shape_of op) offset index (Some memory) vs) (valtype.I32 ∷ (shape_of op).value ∷ []) [] values before next
+          (store-serves op offset index memory is) l st
       by false l =
-          by-rule s (λ vs. load_step (shape_of op) offset (Some memory) vs) (valtype.I32 ∷ []) ((shape_of op).value ∷ []) values before next (load-serves op offset index memory is) l st
+          by-rule s (λ vs. load_step (shape_of op) offset (Some memory) vs) (valtype.I32 ∷ []) ((shape_of op).value ∷ []) values before next
+          (load-serves op offset index memory is) l st

@@ -37,7 +37,8 @@ if-tested P false x y h k = k
 -- ---- a number on top of the stack
 
 -- an i32 stands on top
-pub take-i32 : (context : TypingContext) (P : List Value → Type 0) (types : List ValType) → ((bits : ℕ) (values : List Value) → IsTrue (nat_lt bits (2 ^ 32)) → Offered context types values → P (I32 bits ∷ values))
+pub take-i32 : (context : TypingContext) (P : List Value → Type 0) (types : List ValType)
+    → ((bits : ℕ) (values : List Value) → IsTrue (nat_lt bits (2 ^ 32)) → Offered context types values → P (I32 bits ∷ values))
     → (values : List Value) → Offered context (valtype.I32 ∷ types) values → P values
 take-i32 context P types use_it [] h = absurd h
 take-i32 context P types use_it (I32 bits ∷ values) h = use_it bits values h.0 h.1
@@ -66,7 +67,8 @@ ref-of context kind.Extern (F64 bits) h = absurd (cc h)
 ref-of context kind (Ref reference) h = (reference, refl)
 
 -- a reference that fits a kind is of that kind
-pub kind-fits : (context : TypingContext) (reference : Reference) (kind : RefKind) → HasType context (Ref reference) (type_of_kind kind) → same_kind (kind_of reference) kind ≡ true
+pub kind-fits : (context : TypingContext) (reference : Reference) (kind : RefKind) → HasType context (Ref reference) (type_of_kind kind)
+    → same_kind (kind_of reference) kind ≡ true
 kind-fits context (Null kind.Func) kind.Func h = refl
 kind-fits context (Null kind.Extern) kind.Extern h = refl
 kind-fits context (Null kind.Func) kind.Extern h = absurd (cc h)
@@ -101,7 +103,8 @@ take-three context P use_it values h =
 
 pub rule-cases : {X Y : Type 0} (view : X → Y) (xs : List X) (i : ℕ) (R : Y → Rule) (P : Option X → Type 0) (before next : Operands)
     → Leads (rule_from (slice_get (map view xs) i) R) before next → ((x : X) → slice_get xs i ≡ Some x → Leads (R (view x)) before next → P (Some x)) → P (slice_get xs i)
-rule-cases {X = X} {Y = Y} view xs i R P before next h use_it = by (slice_get xs i) refl (subst (λ (o : Option Y). Leads (rule_from o R) before next) (slice_get-map view xs i) h)
+rule-cases {X = X} {Y = Y} view xs i R P before next h use_it =
+    by (slice_get xs i) refl (subst (λ (o : Option Y). Leads (rule_from o R) before next) (slice_get-map view xs i) h)
   where
     by : (o : Option X) → slice_get xs i ≡ o → Leads (rule_from (option_map view o) R) before next → P o
     by None is l = absurd l
@@ -109,7 +112,8 @@ rule-cases {X = X} {Y = Y} view xs i R P before next h use_it = by (slice_get xs
 
 -- an effect does what a rule says that takes and gives these types
 abbrev pub Serves : State → (List Value → Effect) → List ValType → List ValType → Type 0
-Serves s f takes gives = (values : List Value) (below : Operands) → Offered (state_context s) (reverse takes) values → HaveTypes (state_context s) (drop (length (reverse takes)) values) below
+Serves s f takes gives =
+    (values : List Value) (below : Operands) → Offered (state_context s) (reverse takes) values → HaveTypes (state_context s) (drop (length (reverse takes)) values) below
     → EffectServes s (pushed gives below) (f values)
 
 pub by-rule : (s : State) (f : List Value → Effect) (takes gives : List ValType) (values : List Value) (before next : Operands) → Serves s f takes gives

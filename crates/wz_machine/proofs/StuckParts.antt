@@ -42,13 +42,16 @@ each-written P xs at new one other =
 
 -- ---- references of one kind
 
-pub every-part : (context : TypingContext) (kind : RefKind) (items : List Reference) (from count : ℕ) → HaveKind context kind items → HaveKind context kind (take count (drop from items))
+pub every-part : (context : TypingContext) (kind : RefKind) (items : List Reference) (from count : ℕ) → HaveKind context kind items
+    → HaveKind context kind (take count (drop from items))
 every-part context kind items from count h k r e = let j = each-drop items from k r (each-take (drop from items) count k r e) in h j.0 r j.1
 
-pub every-same : (context : TypingContext) (kind : RefKind) (reference : Reference) (count : ℕ) → HasType context (Ref reference) (type_of_kind kind) → HaveKind context kind (replicate count reference)
+pub every-same : (context : TypingContext) (kind : RefKind) (reference : Reference) (count : ℕ) → HasType context (Ref reference) (type_of_kind kind)
+    → HaveKind context kind (replicate count reference)
 every-same context kind reference count h k r e = subst (λ (x : Reference). HasType context (Ref x) (type_of_kind kind)) (each-same reference count k r e) h
 
-pub every-one : (context : TypingContext) (kind : RefKind) (reference : Reference) → HasType context (Ref reference) (type_of_kind kind) → HaveKind context kind (reference ∷ [])
+pub every-one : (context : TypingContext) (kind : RefKind) (reference : Reference) → HasType context (Ref reference) (type_of_kind kind)
+    → HaveKind context kind (reference ∷ [])
 every-one context kind reference h zero r e = subst (λ (x : Reference). HasType context (Ref x) (type_of_kind kind)) (cc e) h
 every-one context kind reference h (suc k) r e = absurd (cc e)
 

@@ -70,7 +70,8 @@ module _ (context : TypingContext) where
   stand-get (v ∷ values) (t ∷ types) zero type h e = (v, refl, subst (λ (x : ValType). HasType context v x) (cc e) h.0)
   stand-get (v ∷ values) (t ∷ types) (suc i) type h e = stand-get values types i type h.1 e
 
-  stand-set : (values : List Value) (types : List ValType) (i : ℕ) (type : ValType) (value : Value) → HaveTypes context values (as_operands types) → slice_get types i ≡ Some type → HasType context value type
+  stand-set : (values : List Value) (types : List ValType) (i : ℕ) (type : ValType) (value : Value) → HaveTypes context values (as_operands types)
+      → slice_get types i ≡ Some type → HasType context value type
       → HaveTypes context (slice_set values i value) (as_operands types)
   stand-set [] [] i type value h e fit = absurd (cc e)
   stand-set [] (t ∷ types) i type value h e fit = absurd h
@@ -84,7 +85,8 @@ module _ (s : State) (typed : IsStateTyped (state_context s) s) where
   pub push-serves : (value : Value) (type : ValType) → HasType (state_context s) value type → Serves s (λ vs. Yields Nothing (value ∷ vs)) [] (type ∷ [])
   push-serves value type fit values below off st = (tt, (fit, st))
 
-  pub const-serves : (value : Value) (type : ValType) (width bits : ℕ) (values : List Value) (before next : Operands) → (IsTrue (nat_lt bits (2 ^ width)) → HasType (state_context s) value type)
+  pub const-serves : (value : Value) (type : ValType) (width bits : ℕ) (values : List Value) (before next : Operands)
+      → (IsTrue (nat_lt bits (2 ^ width)) → HasType (state_context s) value type)
       → Leads (constant_of type width bits) before next → HaveTypes (state_context s) values before → EffectServes s next (const_step value values)
   const-serves value type width bits values before next fit h st =
       let r = if-passed (nat_lt bits (2 ^ width)) (Exchange [] (type ∷ [])) before next h in
@@ -106,7 +108,8 @@ module _ (s : State) (typed : IsStateTyped (state_context s) s) where
       → HaveTypes (state_context s) values before → EffectServes s next (operation_step op (types_of op).second values)
   operation-serves numbers op values before next (below, t, is) st = by (types_of op).second refl t
     where
-      one : (types_of op).second ≡ None → (values : List Value) → Offered (state_context s) ((types_of op).first ∷ []) values → HaveTypes (state_context s) (drop 1 values) below
+      one : (types_of op).second ≡ None → (values : List Value) → Offered (state_context s) ((types_of op).first ∷ []) values
+          → HaveTypes (state_context s) (drop 1 values) below
           → EffectServes s (Some (types_of op).result ∷ below) (operation_step op None values)
       one same [] off st = absurd off
       one same (a ∷ values) off st =
@@ -138,7 +141,8 @@ module _ (s : State) (typed : IsStateTyped (state_context s) s) where
 
   -- ---- parametric instructions
 
-  pub drop-serves : (values : List Value) (before next : Operands) → Leads DropOne before next → HaveTypes (state_context s) values before → EffectServes s next (drop_step values)
+  pub drop-serves : (values : List Value) (before next : Operands) → Leads DropOne before next → HaveTypes (state_context s) values before
+      → EffectServes s next (drop_step values)
   drop-serves [] before next (operand, is) st = absurd (subst (λ (x : Operands). HaveTypes (state_context s) [] x) is st)
   drop-serves (value ∷ values) before next (operand, is) st = by operand (subst (λ (x : Operands). HaveTypes (state_context s) (value ∷ values) x) is st)
     where
@@ -146,7 +150,8 @@ module _ (s : State) (typed : IsStateTyped (state_context s) s) where
       by None st = absurd st
       by (Some type) st = (tt, st.1)
 
-  picked-serves : (c b a : Value) (values : List Value) (result : Operand) (below : Operands) → HasType (state_context s) c valtype.I32 → HaveTypes (state_context s) (b ∷ values) (result ∷ below)
+  picked-serves : (c b a : Value) (values : List Value) (result : Operand) (below : Operands) → HasType (state_context s) c valtype.I32
+      → HaveTypes (state_context s) (b ∷ values) (result ∷ below)
       → HaveTypes (state_context s) (a ∷ values) (result ∷ below) → EffectServes s (result ∷ below) (select_step (c ∷ b ∷ a ∷ values))
   picked-serves c b a values result below fit second first =
       let r = i32-of (state_context s) c fit in subst (λ (x : Value). EffectServes s (result ∷ below) (select_step (x ∷ b ∷ a ∷ values))) (sym r.1) (by r.0)
@@ -155,11 +160,13 @@ module _ (s : State) (typed : IsStateTyped (state_context s) s) where
       by zero = (tt, second)
       by (suc n) = (tt, first)
 
-  pub select-serves : (values : List Value) (condition second first result : Operand) (below : Operands) → HaveTypes (state_context s) values (condition ∷ second ∷ first ∷ below)
+  pub select-serves : (values : List Value) (condition second first result : Operand) (below : Operands)
+      → HaveTypes (state_context s) values (condition ∷ second ∷ first ∷ below)
       → IsTrue (fits condition valtype.I32) → Becomes second result → Becomes first result → EffectServes s (result ∷ below) (select_step values)
   select-serves (c ∷ b ∷ a ∷ values) (Some tc) (Some tb) (Some ta) result below (hc, (hb, (ha, st))) fit two one =
       picked-serves c b a values result below (subst (λ (x : ValType). HasType (state_context s) c x) (same_type-true tc valtype.I32 fit) hc)
-      (subst (λ (o : Operand). HaveTypes (state_context s) (b ∷ values) (o ∷ below)) (sym two) (hb, st)) (subst (λ (o : Operand). HaveTypes (state_context s) (a ∷ values) (o ∷ below)) (sym one) (ha, st))
+      (subst (λ (o : Operand). HaveTypes (state_context s) (b ∷ values) (o ∷ below)) (sym two) (hb, st))
+      (subst (λ (o : Operand). HaveTypes (state_context s) (a ∷ values) (o ∷ below)) (sym one) (ha, st))
   select-serves [] condition second first result below st fit two one = absurd st
   select-serves (c ∷ values) None second first result below st fit two one = absurd st
   select-serves (c ∷ []) (Some tc) second first result below st fit two one = absurd st.1
@@ -202,7 +209,8 @@ module _ (s : State) (typed : IsStateTyped (state_context s) s) where
   null-of kind.Func = refl
   null-of kind.Extern = refl
 
-  pub ref_func-serves : (index : ℕ) (values : List Value) (before next : Operands) → Leads (rule_if (may_refer (state_context s) index) (Exchange [] (valtype.FuncRef ∷ []))) before next
+  pub ref_func-serves : (index : ℕ) (values : List Value) (before next : Operands)
+      → Leads (rule_if (may_refer (state_context s) index) (Exchange [] (valtype.FuncRef ∷ []))) before next
       → HaveTypes (state_context s) values before → EffectServes s next (ref_func_step index (slice_get s.functions index) values)
   ref_func-serves index values before next h st =
       let r = if-passed (may_refer (state_context s) index) (Exchange [] (valtype.FuncRef ∷ [])) before next h in
@@ -223,26 +231,32 @@ module _ (s : State) (typed : IsStateTyped (state_context s) s) where
       → Serves s (λ vs. global_set_step (length s.functions) (length s.types) index (Some global) vs) (global.type.value ∷ []) []
   set-serves index global is [] below off st = absurd off
   set-serves index global is (value ∷ values) below off st =
-      if-true (λ (e : Effect). EffectServes s below e) (value_fits value global.type.value (length s.functions) (length s.types)) (Yields (SetGlobal index value) values) HasNoRule
+      if-true (λ (e : Effect). EffectServes s below e) (value_fits value global.type.value (length s.functions) (length s.types))
+      (Yields (SetGlobal index value) values) HasNoRule
       (fits-counts value global.type.value off.0)
       ((λ other is_other. let e : global ≡ other = cc in subst (λ (g : Global). HasType (state_context s) value g.type.value) e off.0), st)
 
-  set-if : (mutable : Bool) (type : ValType) (R : ValType → Rule) (before next : Operands) → Leads (rule_from (if mutable then Some type else None) R) before next → Leads (R type) before next
+  set-if : (mutable : Bool) (type : ValType) (R : ValType → Rule) (before next : Operands) → Leads (rule_from (if mutable then Some type else None) R) before next
+      → Leads (R type) before next
   set-if true type R before next h = h
   set-if false type R before next h = absurd h
 
   pub global_set-serves : (index : ℕ) (values : List Value) (before next : Operands)
-      → Leads (rule_from (type_to_set (slice_get (state_context s).globals index)) (λ type. Exchange (type ∷ []) [])) before next → HaveTypes (state_context s) values before
+      → Leads (rule_from (type_to_set (slice_get (state_context s).globals index)) (λ type. Exchange (type ∷ []) [])) before next
+      → HaveTypes (state_context s) values before
       → EffectServes s next (global_set_step (length s.functions) (length s.types) index (slice_get s.globals index) values)
   global_set-serves index values before next h st =
       by (slice_get s.globals index) refl
-      (subst (λ (o : Option GlobalType). Leads (rule_from (type_to_set o) (λ type. Exchange (type ∷ []) [])) before next) (slice_get-map (λ (global : Global). global.type) s.globals index) h)
+      (subst (λ (o : Option GlobalType). Leads (rule_from (type_to_set o) (λ type. Exchange (type ∷ []) [])) before next)
+      (slice_get-map (λ (global : Global). global.type) s.globals index) h)
     where
-      by : (o : Option Global) → slice_get s.globals index ≡ o → Leads (rule_from (type_to_set (option_map (λ (global : Global). global.type) o)) (λ type. Exchange (type ∷ []) [])) before next
+      by : (o : Option Global) → slice_get s.globals index ≡ o
+          → Leads (rule_from (type_to_set (option_map (λ (global : Global). global.type) o)) (λ type. Exchange (type ∷ []) [])) before next
           → EffectServes s next (global_set_step (length s.functions) (length s.types) index o values)
       by None is l = absurd l
       by (Some global) is l =
-          by-rule s (λ vs. global_set_step (length s.functions) (length s.types) index (Some global) vs) (global.type.value ∷ []) [] values before next (set-serves index global is)
+          by-rule s (λ vs. global_set_step (length s.functions) (length s.types) index (Some global) vs) (global.type.value ∷ []) [] values before next
+          (set-serves index global is)
           (set-if global.type.mutable global.type.value (λ type. Exchange (type ∷ []) []) before next l) st
 
   -- ---- locals
@@ -252,18 +266,21 @@ module _ (s : State) (typed : IsStateTyped (state_context s) s) where
         → HaveTypes (state_context s) values before → EffectServes s next (local_get_step (slice_get locals index) values)
     get-serves index values before next h st = by (slice_get types index) refl h
       where
-        by : (o : Option ValType) → slice_get types index ≡ o → Leads (rule_from o (λ type. Exchange [] (type ∷ []))) before next → EffectServes s next (local_get_step (slice_get locals index) values)
+        by : (o : Option ValType) → slice_get types index ≡ o → Leads (rule_from o (λ type. Exchange [] (type ∷ []))) before next
+            → EffectServes s next (local_get_step (slice_get locals index) values)
         by None is l = absurd l
         by (Some type) is l =
             let r = stand-get (state_context s) locals types index type stands is in
             subst (λ (o : Option Value). EffectServes s next (local_get_step o values)) (sym r.1)
             (by-rule s (λ vs. Yields Nothing (r.0 ∷ vs)) [] (type ∷ []) values before next (push-serves r.0 type r.2) l st)
 
-    pub set_local-serves : (index : ℕ) (values : List Value) (before next : Operands) → Leads (rule_from (slice_get types index) (λ type. Exchange (type ∷ []) [])) before next
+    pub set_local-serves : (index : ℕ) (values : List Value) (before next : Operands)
+        → Leads (rule_from (slice_get types index) (λ type. Exchange (type ∷ []) [])) before next
         → HaveTypes (state_context s) values before → OutcomeServes s (scope_in s types returns) labels next (local_set_step locals index (slice_get locals index) values)
     set_local-serves index values before next h st = by (slice_get types index) refl h
       where
-        one : (type : ValType) (values : List Value) (below : Operands) → slice_get types index ≡ Some type → Offered (state_context s) (type ∷ []) values → HaveTypes (state_context s) (drop 1 values) below
+        one : (type : ValType) (values : List Value) (below : Operands) → slice_get types index ≡ Some type → Offered (state_context s) (type ∷ []) values
+            → HaveTypes (state_context s) (drop 1 values) below
             → OutcomeServes s (scope_in s types returns) labels below (local_set_step locals index (slice_get locals index) values)
         one type [] below is off st = absurd off
         one type (value ∷ values) below is off st =
@@ -276,13 +293,16 @@ module _ (s : State) (typed : IsStateTyped (state_context s) s) where
         by None is l = absurd l
         by (Some type) is (below, t, leads) =
             let r = stand-taken (state_context s) (type ∷ []) values before below t st in
-            subst (λ (x : Operands). OutcomeServes s (scope_in s types returns) labels x (local_set_step locals index (slice_get locals index) values)) (sym leads) (one type values below is r.0 r.1)
+            subst (λ (x : Operands). OutcomeServes s (scope_in s types returns) labels x (local_set_step locals index (slice_get locals index) values)) (sym leads)
+            (one type values below is r.0 r.1)
 
-    pub tee-serves : (index : ℕ) (values : List Value) (before next : Operands) → Leads (rule_from (slice_get types index) (λ type. Exchange (type ∷ []) (type ∷ []))) before next
+    pub tee-serves : (index : ℕ) (values : List Value) (before next : Operands)
+        → Leads (rule_from (slice_get types index) (λ type. Exchange (type ∷ []) (type ∷ []))) before next
         → HaveTypes (state_context s) values before → OutcomeServes s (scope_in s types returns) labels next (local_tee_step locals index (slice_get locals index) values)
     tee-serves index values before next h st = by (slice_get types index) refl h
       where
-        one : (type : ValType) (values : List Value) (below : Operands) → slice_get types index ≡ Some type → Offered (state_context s) (type ∷ []) values → HaveTypes (state_context s) (drop 1 values) below
+        one : (type : ValType) (values : List Value) (below : Operands) → slice_get types index ≡ Some type → Offered (state_context s) (type ∷ []) values
+            → HaveTypes (state_context s) (drop 1 values) below
             → OutcomeServes s (scope_in s types returns) labels (Some type ∷ below) (local_tee_step locals index (slice_get locals index) values)
         one type [] below is off st = absurd off
         one type (value ∷ values) below is off st =
@@ -295,4 +315,5 @@ module _ (s : State) (typed : IsStateTyped (state_context s) s) where
         by None is l = absurd l
         by (Some type) is (below, t, leads) =
             let r = stand-taken (state_context s) (type ∷ []) values before below t st in
-            subst (λ (x : Operands). OutcomeServes s (scope_in s types returns) labels x (local_tee_step locals index (slice_get locals index) values)) (sym leads) (one type values below is r.0 r.1)
+            subst (λ (x : Operands). OutcomeServes s (scope_in s types returns) labels x (local_tee_step locals index (slice_get locals index) values)) (sym leads)
+            (one type values below is r.0 r.1)

@@ -75,5 +75,6 @@ scope_in s types results = scope_with (state_context s) types results
 -- each instruction that holds no others does what its rule says
 pub record LeavesServe (s : State) : Type 0 where
   pub serves : (types results : List ValType) (labels : Labels) (leaf : Leaf) (locals values : List Value) (before next : Operands)
-      → Leads (rule_of (scope_in s types results) labels leaf) before next → HaveTypes (state_context s) values before → HaveTypes (state_context s) locals (as_operands types)
+      → Leads (rule_of (scope_in s types results) labels leaf) before next → HaveTypes (state_context s) values before
+      → HaveTypes (state_context s) locals (as_operands types)
       → OutcomeServes s (scope_in s types results) labels next (leaf_step s locals leaf values)

@@ -24,7 +24,8 @@ use Rattle.wz_machine.proofs.StuckChanges.{change_keeps_typing}
 use Rattle.wz_machine.proofs.TypedLemmas.{context_lasts}
 
 module _ (s : State) (typed : IsStateTyped (state_context s) s) (numbers : NumbersServe) where
-  access_reply-serves : (stack : List Standing) (access : AccessReply) → IsStackTyped (state_context s) stack → AccessServes s access → ReplyServes s (access_reply stack access)
+  access_reply-serves : (stack : List Standing) (access : AccessReply) → IsStackTyped (state_context s) stack → AccessServes s access
+      → ReplyServes s (access_reply stack access)
   access_reply-serves stack access h a = record { change = a.0; stack = h; event = a.1 }
 
   reply-serves : (exports : List ExportInstance) (stack : List Standing) (m : Move) → IsStackTyped (state_context s) stack → ReplyServes s (move_reply exports s stack m)
@@ -34,12 +35,17 @@ module _ (s : State) (typed : IsStateTyped (state_context s) s) (numbers : Numbe
   reply-serves exports stack (GrowAnswer granted) h = grow-serves s typed numbers stack granted h
   reply-serves exports stack (ReturnMove values) h = return-serves s typed numbers stack values h
   reply-serves exports stack AbortMove h = abort-serves s typed numbers stack h
-  reply-serves exports stack (ReadMove name at count) h = access_reply-serves stack (read_access s (exported exports name) at count) h (read_access-serves s typed (exported exports name) at count)
-  reply-serves exports stack (WriteMove name at bytes) h = access_reply-serves stack (write_access s (exported exports name) at bytes) h (write_access-serves s typed (exported exports name) at bytes)
+  reply-serves exports stack (ReadMove name at count) h =
+      access_reply-serves stack (read_access s (exported exports name) at count) h (read_access-serves s typed (exported exports name) at count)
+  reply-serves exports stack (WriteMove name at bytes) h =
+      access_reply-serves stack (write_access s (exported exports name) at bytes) h (write_access-serves s typed (exported exports name) at bytes)
   reply-serves exports stack (SizeMove name) h = access_reply-serves stack (size_access s (exported exports name)) h (size_access-serves s typed (exported exports name))
-  reply-serves exports stack (EnlargeMove name by value) h = access_reply-serves stack (enlarge_access s (exported exports name) by value) h (enlarge_access-serves s typed (exported exports name) by value)
-  reply-serves exports stack (GetMove name at) h = access_reply-serves stack (get_access s (exported exports name) at) h (get_access-serves s typed (exported exports name) at)
-  reply-serves exports stack (SetMove name at value) h = access_reply-serves stack (set_access s (exported exports name) at value) h (set_access-serves s typed (exported exports name) at value)
+  reply-serves exports stack (EnlargeMove name by value) h =
+      access_reply-serves stack (enlarge_access s (exported exports name) by value) h (enlarge_access-serves s typed (exported exports name) by value)
+  reply-serves exports stack (GetMove name at) h =
+      access_reply-serves stack (get_access s (exported exports name) at) h (get_access-serves s typed (exported exports name) at)
+  reply-serves exports stack (SetMove name at value) h =
+      access_reply-serves stack (set_access s (exported exports name) at value) h (set_access-serves s typed (exported exports name) at value)
 
 pub entry_is_typed : NumbersServe → EntryIsTyped
 entry_is_typed numbers s function values typed fit = entry-typed s typed numbers function values fit

@@ -40,7 +40,8 @@ module _ (context : TypingContext) where
   stand-append (v ∷ a) b (Some t ∷ p) q h k = (h.0, stand-append a b p q h.1 k)
 
   -- values of pushed types on others
-  pub stand-pushed : (values below : List Value) (ts : List ValType) (s : Operands) → HaveTypes context values (pushed ts []) → HaveTypes context below s → HaveTypes context (values ++ below) (pushed ts s)
+  pub stand-pushed : (values below : List Value) (ts : List ValType) (s : Operands) → HaveTypes context values (pushed ts []) → HaveTypes context below s
+      → HaveTypes context (values ++ below) (pushed ts s)
   stand-pushed values below ts s h k =
       subst (λ (x : Operands). HaveTypes context (values ++ below) x) (pushed-onto ts s) (stand-append values below (pushed ts []) s h k)
 
@@ -50,13 +51,15 @@ module _ (context : TypingContext) where
   stand-length (v ∷ values) [] h = absurd h
   stand-length (v ∷ values) (t ∷ ts) h = ap suc (stand-length values ts h.1)
 
-  pub stand-reverse : (values : List Value) (ts : List ValType) → HaveTypes context values (as_operands ts) → HaveTypes context (reverse values) (as_operands (reverse ts))
+  pub stand-reverse : (values : List Value) (ts : List ValType) → HaveTypes context values (as_operands ts)
+      → HaveTypes context (reverse values) (as_operands (reverse ts))
   stand-reverse [] [] h = tt
   stand-reverse [] (t ∷ ts) h = absurd h
   stand-reverse (v ∷ values) [] h = absurd h
   stand-reverse (v ∷ values) (t ∷ ts) h =
       let e : reverse (v ∷ values) ≡ reverse values ++ v ∷ [] = reverse-append (v ∷ []) values in
-      let f : as_operands (reverse (t ∷ ts)) ≡ as_operands (reverse ts) ++ Some t ∷ [] = ap as_operands (reverse-append (t ∷ []) ts) ∙ as_operands-append (reverse ts) (t ∷ []) in
+      let f : as_operands (reverse (t ∷ ts)) ≡ as_operands (reverse ts) ++ Some t ∷ [] = ap as_operands (reverse-append (t ∷ []) ts) ∙ as_operands-append (reverse ts)
+      (t ∷ []) in
       subst (λ (x : List Value). HaveTypes context x (as_operands (reverse (t ∷ ts)))) (sym e)
       (subst (λ (x : Operands). HaveTypes context (reverse values ++ v ∷ []) x) (sym f)
       (stand-append (reverse values) (v ∷ []) (as_operands (reverse ts)) (Some t ∷ []) (stand-reverse values ts h.1) (h.0, tt)))
