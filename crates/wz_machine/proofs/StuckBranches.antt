@@ -11,22 +11,20 @@ use Rattle.wz_valid_code.specs.Rules.{Leads, rule_from, Stop, Exchange, TakesEac
 use Rattle.wz_valid_code.specs.Instructions.{labels_at, with_first_label}
 use Rattle.wz_machine.specs.State.{State}
 use Rattle.wz_machine.specs.TypedState.{IsStateTyped, state_context}
-use Rattle.wz_machine.specs.TypedTerms.{HaveTypes}
 use Rattle.wz_machine.specs.Outcomes.{Jumps}
 use Rattle.wz_machine.specs.ControlSteps.{br_if_step, br_table_step, listed_jump}
-use Rattle.wz_machine.proofs.StuckRelations.{Offers, OutcomeServes, scope_in, Offered}
+use Rattle.wz_machine.proofs.StuckRelations.{Have, Offers, OutcomeServes, scope_in, Offered}
 use Rattle.wz_machine.proofs.StuckValues.{offers-of, stand-taken, stand-pushed}
 use Rattle.wz_machine.proofs.StuckOperands.{take-i32}
 
 module _ (s : State) (typed : IsStateTyped (state_context s) s) (types returns : List ValType) (labels : Labels) where
   -- what a branch takes along is there
   pub offered-label : (asked : List ValType) (values : List Value) (before below : Operands) → Takes (reverse asked) before below
-      → HaveTypes (state_context s) values before → Offers (state_context s) values asked
+      → Have s values before → Offers (state_context s) values asked
   offered-label asked values before below t st = offers-of (state_context s) asked values (stand-taken (state_context s) (reverse asked) values before below t st).0
 
   pub branch-serves : (label : ℕ) (values : List Value) (before next : Operands) → Leads (rule_from (slice_get labels label) (λ asked. Stop asked)) before next
-      → HaveTypes (state_context s) values before
-      → OutcomeServes s (scope_in s types returns) labels next (Jumps label values)
+      → Have s values before → OutcomeServes s (scope_in s types returns) labels next (Jumps label values)
   branch-serves label values before next h st = by (slice_get labels label) refl h
     where
       by : (o : Option (List ValType)) → slice_get labels label ≡ o → Leads (rule_from o (λ asked. Stop asked)) before next
@@ -35,7 +33,7 @@ module _ (s : State) (typed : IsStateTyped (state_context s) s) (types returns :
       by (Some asked) is (below, takes) = (asked, is, offered-label asked values before below takes st)
 
   pub branch_if-serves : (label : ℕ) (values : List Value) (before next : Operands)
-      → Leads (rule_from (slice_get labels label) (λ asked. Exchange (asked ++ valtype.I32 ∷ []) asked)) before next → HaveTypes (state_context s) values before
+      → Leads (rule_from (slice_get labels label) (λ asked. Exchange (asked ++ valtype.I32 ∷ []) asked)) before next → Have s values before
       → OutcomeServes s (scope_in s types returns) labels next (br_if_step label values)
   branch_if-serves label values before next h st = by (slice_get labels label) refl h
     where
@@ -46,32 +44,31 @@ module _ (s : State) (typed : IsStateTyped (state_context s) s) (types returns :
           let on : reverse (asked ++ valtype.I32 ∷ []) ≡ valtype.I32 ∷ reverse asked = reverse-append asked (valtype.I32 ∷ []) in
           let r = stand-taken (state_context s) (valtype.I32 ∷ reverse asked) values before below (subst (λ (x : List ValType). Takes x before below) on takes) st in
           subst (λ (x : Operands). OutcomeServes s (scope_in s types returns) labels x (br_if_step label values)) (sym leads)
-          (take-i32 (state_context s) (λ vs. HaveTypes (state_context s) (drop (suc (length (reverse asked))) vs) below
+          (take-i32 (state_context s) (λ vs. Have s (drop (suc (length (reverse asked))) vs) below
           → OutcomeServes s (scope_in s types returns) labels (pushed asked below) (br_if_step label vs)) (reverse asked)
           (λ bits vs fit off st. on-bits bits vs off st) values r.0 r.1)
         where
-          on-bits : (bits : ℕ) (vs : List Value) → Offered (state_context s) (reverse asked) vs → HaveTypes (state_context s) (drop (length (reverse asked)) vs) below
+          on-bits : (bits : ℕ) (vs : List Value) → Offered (state_context s) (reverse asked) vs → Have s (drop (length (reverse asked)) vs) below
               → OutcomeServes s (scope_in s types returns) labels (pushed asked below) (br_if_step label (I32 bits ∷ vs))
           on-bits zero vs off st =
               let offers = offers-of (state_context s) asked vs off in
-              let left = subst (λ (k : ℕ). HaveTypes (state_context s) (drop k vs) below) (length-reverse asked) st in (
+              let left = subst (λ (k : ℕ). Have s (drop k vs) below) (length-reverse asked) st in (
                 tt,
-                subst (λ (x : List Value). HaveTypes (state_context s) x (pushed asked below)) (take-append-drop (length asked) vs)
+                subst (λ (x : List Value). Have s x (pushed asked below)) (take-append-drop (length asked) vs)
                     (stand-pushed (state_context s) (take (length asked) vs) (drop (length asked) vs) asked below offers.carried left),
               )
           on-bits (suc n) vs off st = (asked, is, offers-of (state_context s) asked vs off)
 
   -- each of these labels is there, and what a branch to it takes along stands on the stack
   labels-offer : (numbers : List ℕ) (lists : List (List ValType)) (values : List Value) (below : Operands) → labels_at labels numbers ≡ Some lists → TakesEach lists below
-      → HaveTypes (state_context s) values below → (at label : ℕ) → slice_get numbers at ≡ Some label → (asked : List ValType) × (slice_get labels label ≡ Some asked)
+      → Have s values below → (at label : ℕ) → slice_get numbers at ≡ Some label → (asked : List ValType) × (slice_get labels label ≡ Some asked)
       × Offers (state_context s) values asked
   labels-offer [] lists values below found each st at label e = absurd (cc e)
   labels-offer (first ∷ others) lists values below found each st at label e =
       by (slice_get labels first) (labels_at labels others) refl refl found at e (λ more rest each at e. labels-offer others more values below rest each st at label e)
     where
       by : (o : Option (List ValType)) (p : Option (List (List ValType))) → slice_get labels first ≡ o → labels_at labels others ≡ p → with_first_label o p ≡ Some lists
-          → (at : ℕ)
-          → slice_get (first ∷ others) at ≡ Some label
+          → (at : ℕ) → slice_get (first ∷ others) at ≡ Some label
           → ((more : List (List ValType)) → labels_at labels others ≡ Some more → TakesEach more below → (at : ℕ) → slice_get others at ≡ Some label
           → (asked : List ValType) × (slice_get labels label ≡ Some asked) × Offers (state_context s) values asked)
           → (asked : List ValType) × (slice_get labels label ≡ Some asked) × Offers (state_context s) values asked
@@ -88,7 +85,7 @@ module _ (s : State) (typed : IsStateTyped (state_context s) s) (types returns :
           more tail rest taken.1 at e
 
   pub table_branch-serves : (numbers : List ℕ) (last : ℕ) (values : List Value) (before next : Operands)
-      → Leads (rule_from (labels_at labels (last ∷ numbers)) (λ lists. Choose lists)) before next → HaveTypes (state_context s) values before
+      → Leads (rule_from (labels_at labels (last ∷ numbers)) (λ lists. Choose lists)) before next → Have s values before
       → OutcomeServes s (scope_in s types returns) labels next (br_table_step numbers last values)
   table_branch-serves numbers last values before next h st = by (labels_at labels (last ∷ numbers)) refl h
     where
@@ -97,11 +94,10 @@ module _ (s : State) (typed : IsStateTyped (state_context s) s) (types returns :
       by None is l = absurd l
       by (Some lists) is (below, takes, each, long) =
           let r = stand-taken (state_context s) (valtype.I32 ∷ []) values before below takes st in
-          take-i32 (state_context s) (λ vs. HaveTypes (state_context s) (drop 1 vs) below
-          → OutcomeServes s (scope_in s types returns) labels next (br_table_step numbers last vs)) []
+          take-i32 (state_context s) (λ vs. Have s (drop 1 vs) below → OutcomeServes s (scope_in s types returns) labels next (br_table_step numbers last vs)) []
           (λ bits vs fit off st. at-bits vs st bits (slice_get numbers bits) refl) values r.0 r.1
         where
-          at-bits : (vs : List Value) → HaveTypes (state_context s) vs below → (bits : ℕ) (o : Option ℕ) → slice_get numbers bits ≡ o
+          at-bits : (vs : List Value) → Have s vs below → (bits : ℕ) (o : Option ℕ) → slice_get numbers bits ≡ o
               → OutcomeServes s (scope_in s types returns) labels next (listed_jump o last vs)
           at-bits vs st bits None e = labels-offer (last ∷ numbers) lists vs below is each st zero last refl
           at-bits vs st bits (Some label) e = labels-offer (last ∷ numbers) lists vs below is each st (suc bits) label e

@@ -33,7 +33,7 @@ use Rattle.wz_machine.specs.Outcomes.{Outcome, Does, HasNoRule, Fails, Poses}
 use Rattle.wz_machine.specs.Terms.{AskHost}
 use Rattle.wz_machine.specs.declared.questions.HostTarget.TheVariants as target
 use Rattle.wz_machine.proofs.StuckValues.{as_operands-append, stand-append, offered-front, stand-reverse, offers-of, stand-taken}
-use Rattle.wz_machine.proofs.StuckRelations.{Offered, OutcomeServes, scope_in}
+use Rattle.wz_machine.proofs.StuckRelations.{Have, Offered, OutcomeServes, scope_in}
 use Rattle.wz_machine.proofs.StuckOperands.{if-true, take-i32}
 use Rattle.wz_machine.proofs.LeafLemmas.{if-both}
 use Rattle.wz_machine.proofs.TypedLemmas.{if-passed}
@@ -83,18 +83,17 @@ module _ (s : State) (typed : IsStateTyped (state_context s) s) where
   module _ (types returns : List ValType) (labels : Labels) where
     -- arguments that are taken are locals in the order of pushing
     arguments-serve : (params : List ValType) (values : List Value) → Offered (state_context s) (reverse params) values
-        → HaveTypes (state_context s) (reverse (take (length params) values)) (as_operands params)
+        → Have s (reverse (take (length params) values)) (as_operands params)
     arguments-serve params values off =
-        let front = subst (λ (n : ℕ). HaveTypes (state_context s) (take n values) (as_operands (reverse params))) (length-reverse params)
+        let front = subst (λ (n : ℕ). Have s (take n values) (as_operands (reverse params))) (length-reverse params)
         (offered-front (state_context s) (reverse params) values off) in
-        subst (λ (x : List ValType). HaveTypes (state_context s) (reverse (take (length params) values)) (as_operands x)) (reverse-reverse params)
+        subst (λ (x : List ValType). Have s (reverse (take (length params) values)) (as_operands x)) (reverse-reverse params)
         (stand-reverse (state_context s) (take (length params) values) (reverse params) front)
 
     -- a call with as many arguments as there are parameters
     with-serves : (type : FunctionType) (call : List Value → List Value → Outcome) (values : List Value) (below next : Operands)
-        → Offered (state_context s) (reverse type.params) values
-        → HaveTypes (state_context s) (drop (length (reverse type.params)) values) below
-        → ((arguments left : List Value) → HaveTypes (state_context s) arguments (as_operands type.params) → HaveTypes (state_context s) left below
+        → Offered (state_context s) (reverse type.params) values → Have s (drop (length (reverse type.params)) values) below
+        → ((arguments left : List Value) → Have s arguments (as_operands type.params) → Have s left below
         → OutcomeServes s (scope_in s types returns) labels next (call arguments left))
         → OutcomeServes s (scope_in s types returns) labels next (with_arguments type call values)
     with-serves type call values below next off st serves =
@@ -103,10 +102,10 @@ module _ (s : State) (typed : IsStateTyped (state_context s) s) where
         if-true (λ (o : Outcome). OutcomeServes s (scope_in s types returns) labels next o) (nat_le n (length values))
         (call (reverse (take n values)) (drop n values)) (Does HasNoRule) (le-leb n (length values) offers.enough)
         (serves (reverse (take n values)) (drop n values) (arguments-serve type.params values off)
-        (subst (λ (k : ℕ). HaveTypes (state_context s) (drop k values) below) (length-reverse type.params) st))
+        (subst (λ (k : ℕ). Have s (drop k values) below) (length-reverse type.params) st))
 
     invocation-serves : (type : FunctionType) (body : FunctionBody) (arguments values : List Value) (below : Operands) → BodyTyped (state_context s) type body
-        → HaveTypes (state_context s) arguments (as_operands type.params) → HaveTypes (state_context s) values below
+        → Have s arguments (as_operands type.params) → Have s values below
         → OutcomeServes s (scope_in s types returns) labels (pushed type.results below) (invocation type body arguments values)
     invocation-serves type (OwnBody locals code) arguments values below h fit st = record {
       types = type.params ++ locals;
@@ -122,7 +121,7 @@ module _ (s : State) (typed : IsStateTyped (state_context s) s) where
     invocation-serves type NoBody arguments values below h fit st = absurd h
 
     call-serves : (type : FunctionType) (body : FunctionBody) (values : List Value) (below : Operands) → BodyTyped (state_context s) type body
-        → Offered (state_context s) (reverse type.params) values → HaveTypes (state_context s) (drop (length (reverse type.params)) values) below
+        → Offered (state_context s) (reverse type.params) values → Have s (drop (length (reverse type.params)) values) below
         → OutcomeServes s (scope_in s types returns) labels (pushed type.results below) (call_step (Some (record { type = type; body = body })) values)
     call-serves type body values below h off st =
         with-serves type (λ arguments left. invocation type body arguments left) values below (pushed type.results below) off st
@@ -131,7 +130,7 @@ module _ (s : State) (typed : IsStateTyped (state_context s) s) where
     -- ---- call
 
     pub direct-serves : (index : ℕ) (values : List Value) (before next : Operands)
-        → Leads (rule_from (function_type (state_context s) index) (λ type. Exchange type.params type.results)) before next → HaveTypes (state_context s) values before
+        → Leads (rule_from (function_type (state_context s) index) (λ type. Exchange type.params type.results)) before next → Have s values before
         → OutcomeServes s (scope_in s types returns) labels next (call_step (callable_at s.types s.functions index) values)
     direct-serves index values before next h st =
         by (slice_get s.functions index) refl
@@ -156,7 +155,7 @@ module _ (s : State) (typed : IsStateTyped (state_context s) s) where
     -- ---- call_indirect
 
     module _ (type : FunctionType) (values : List Value) (below : Operands) (off : Offered (state_context s) (reverse type.params) values)
-        (st : HaveTypes (state_context s) (drop (length (reverse type.params)) values) below) where
+        (st : Have s (drop (length (reverse type.params)) values) below) where
       expected-serves : (found : FunctionType) (body : FunctionBody) → BodyTyped (state_context s) found body
           → OutcomeServes s (scope_in s types returns) labels (pushed type.results below) (expected_call type (Some (record { type = found; body = body })) values)
       expected-serves found body h = by (same_function_type found type) refl
@@ -207,15 +206,14 @@ module _ (s : State) (typed : IsStateTyped (state_context s) s) where
     functions-kind kind.Extern h = absurd (cc h)
 
     called-serves : (type : FunctionType) (index : ℕ) (table : Table) (values : List Value) (before next : Operands) → slice_get s.tables index ≡ Some table
-        → is_function_kind (Some table.kind) ≡ true
-        → Leads (Exchange (type.params ++ valtype.I32 ∷ []) type.results) before next → HaveTypes (state_context s) values before
+        → is_function_kind (Some table.kind) ≡ true → Leads (Exchange (type.params ++ valtype.I32 ∷ []) type.results) before next → Have s values before
         → OutcomeServes s (scope_in s types returns) labels next (call_indirect_step s.types s.functions (Some type) (Some table) values)
     called-serves type index table values before next is functions (below, takes, leads) st =
         let asked : reverse (type.params ++ valtype.I32 ∷ []) ≡ valtype.I32 ∷ reverse type.params = reverse-append type.params (valtype.I32 ∷ []) in
         let r = stand-taken (state_context s) (valtype.I32 ∷ reverse type.params) values before below
         (subst (λ (x : List ValType). Takes x before below) asked takes) st in
         subst (λ (x : Operands). OutcomeServes s (scope_in s types returns) labels x (call_indirect_step s.types s.functions (Some type) (Some table) values)) (sym leads)
-        (take-i32 (state_context s) (λ vs. HaveTypes (state_context s) (drop (suc (length (reverse type.params))) vs) below
+        (take-i32 (state_context s) (λ vs. Have s (drop (suc (length (reverse type.params))) vs) below
         → OutcomeServes s (scope_in s types returns) labels (pushed type.results below) (call_indirect_step s.types s.functions (Some type) (Some table) vs))
         (reverse type.params)
         (λ at vs fit off st. entry-serves type vs below off st (slice_get table.entries at)
@@ -224,7 +222,7 @@ module _ (s : State) (typed : IsStateTyped (state_context s) s) where
 
     pub indirect-serves : (signature index : ℕ) (values : List Value) (before next : Operands)
         → Leads (rule_if (is_function_kind (slice_get (state_context s).tables index)) (rule_from (slice_get s.types signature) (λ type. Exchange (type.params ++ valtype.I32 ∷ []) type.results))) before next
-        → HaveTypes (state_context s) values before
+        → Have s values before
         → OutcomeServes s (scope_in s types returns) labels next (call_indirect_step s.types s.functions (slice_get s.types signature) (slice_get s.tables index) values)
     indirect-serves signature index values before next h st =
         let r = if-passed _ _ _ _ h in

@@ -26,7 +26,7 @@ use Rattle.wz_machine.specs.Step.{effect_reduct, outcome_reduct, code_reduct, in
 use Rattle.wz_machine.specs.Terms.{InLabel, Innermost, Inside, InFrame, Term, Frame, BareValues}
 use Rattle.wz_machine.specs.InstrSteps.{leaf_step}
 use Rattle.wz_machine.specs.TypedSteps.{IsAnswerTyped}
-use Rattle.wz_machine.proofs.StuckRelations.{LeavesServe, EffectServes, scope_in, ReductServes, OutcomeServes, Offered, Offers}
+use Rattle.wz_machine.proofs.StuckRelations.{Have, LeavesServe, EffectServes, scope_in, ReductServes, OutcomeServes, Offered, Offers}
 use Rattle.wz_machine.proofs.StuckValues.{stand-pushed, offers-of, stand-taken, as_operands-reverse, stand-length, stand-reverse}
 use Rattle.wz_machine.proofs.StuckOperands.{if-true, take-i32}
 
@@ -53,14 +53,14 @@ module _ (s : State) (leaves : LeavesServe s) where
   -- ---- the innermost instructions
 
   effect-serves : (types returns : List ValType) (labels : Labels) (results : List ValType) (locals : List Value) (rest : Code) (effect : Effect) (next : Operands)
-      → EffectServes s next effect → IsTyped (scope_in s types returns) labels rest next results → HaveTypes (state_context s) locals (as_operands types)
+      → EffectServes s next effect → IsTyped (scope_in s types returns) labels rest next results → Have s locals (as_operands types)
       → ReductServes s (scope_in s types returns) labels results (effect_reduct locals rest effect)
   effect-serves types returns labels results locals rest (Yields change values) next e t l = (e.0, l, (next, e.1, t))
   effect-serves types returns labels results locals rest (Poses question values) next (below, stand, is, serves) t l = (
     serves,
     λ vs h. (
       next,
-      subst (λ (x : Operands). HaveTypes (state_context s) (vs ++ values) x) (sym is)
+      subst (λ (x : Operands). Have s (vs ++ values) x) (sym is)
           (stand-pushed (state_context s) vs values (answer_types question) below h stand),
       t,
     ),
@@ -70,8 +70,7 @@ module _ (s : State) (leaves : LeavesServe s) where
 
   found-serves : (types returns : List ValType) (labels : Labels) (results : List ValType) (locals : List Value) (rest : Code) (outcome : Outcome) (next : Operands)
       → OutcomeServes s (scope_in s types returns) labels next outcome → IsTyped (scope_in s types returns) labels rest next results
-      → HaveTypes (state_context s) locals (as_operands types)
-      → ReductServes s (scope_in s types returns) labels results (outcome_reduct locals rest outcome)
+      → Have s locals (as_operands types) → ReductServes s (scope_in s types returns) labels results (outcome_reduct locals rest outcome)
   found-serves types returns labels results locals rest (Does effect) next o t l = effect-serves types returns labels results locals rest effect next o t l
   found-serves types returns labels results locals rest (SetsLocals new values) next o t l = (tt, o.0, (next, o.1, t))
   found-serves types returns labels results locals rest (Jumps label values) next o t l = o
@@ -91,11 +90,10 @@ module _ (s : State) (leaves : LeavesServe s) where
 
   -- a block takes in what stands on top
   block_entry-serves : (types returns : List ValType) (labels : Labels) (results : List ValType) (locals : List Value) (type : FunctionType) (again : Option Code) (inner : Code) (values : List Value) (rest : Code)
-      (below next : Operands) → Offered (state_context s) (reverse type.params) values → HaveTypes (state_context s) (drop (length (reverse type.params)) values) below
-      → next ≡ pushed type.results below
-      → IsTyped (scope_in s types returns) (label_types type again ∷ labels) inner (pushed type.params []) type.results
+      (below next : Operands) → Offered (state_context s) (reverse type.params) values → Have s (drop (length (reverse type.params)) values) below
+      → next ≡ pushed type.results below → IsTyped (scope_in s types returns) (label_types type again ∷ labels) inner (pushed type.params []) type.results
       → Continues (scope_in s types returns) labels (label_types type again) type.results again
-      → IsTyped (scope_in s types returns) labels rest next results → HaveTypes (state_context s) locals (as_operands types)
+      → IsTyped (scope_in s types returns) labels rest next results → Have s locals (as_operands types)
       → ReductServes s (scope_in s types returns) labels results (block_entry locals (Some type) again inner values rest)
   block_entry-serves types returns labels results locals type again inner values rest below next off stand is typed on follows l =
       let n : ℕ = length type.params in
@@ -113,7 +111,7 @@ module _ (s : State) (leaves : LeavesServe s) where
           on,
           record {
             operands = below;
-            values = subst (λ (k : ℕ). HaveTypes (state_context s) (drop k values) below) (length-reverse type.params) stand;
+            values = subst (λ (k : ℕ). Have s (drop k values) below) (length-reverse type.params) stand;
             code = subst (λ (x : Operands). IsTyped (scope_in s types returns) labels rest x results) is follows;
           },
         ),
@@ -122,7 +120,7 @@ module _ (s : State) (leaves : LeavesServe s) where
   block-serves : (types returns : List ValType) (labels : Labels) (results : List ValType) (locals : List Value) (o : Option FunctionType) (inner : Code) (values : List Value) (rest : Code) (before : Operands)
       → IsSomeAnd o (λ type. IsTyped (scope_in s types returns) (type.results ∷ labels) inner (pushed type.params []) type.results
       × ((next : Operands) × Leads (Exchange type.params type.results) before next × IsTyped (scope_in s types returns) labels rest next results))
-      → HaveTypes (state_context s) values before → HaveTypes (state_context s) locals (as_operands types)
+      → Have s values before → Have s locals (as_operands types)
       → ReductServes s (scope_in s types returns) labels results (block_entry locals o None inner values rest)
   block-serves types returns labels results locals None inner values rest before h st l = absurd h
   block-serves types returns labels results locals (Some type) inner values rest before (typed, (next, (below, takes, is), follows)) st l =
@@ -132,7 +130,7 @@ module _ (s : State) (leaves : LeavesServe s) where
   loop-serves : (types returns : List ValType) (labels : Labels) (results : List ValType) (locals : List Value) (o : Option FunctionType) (inner : Code) (values : List Value) (rest : Code) (before : Operands)
       → IsSomeAnd o (λ type. IsTyped (scope_in s types returns) (type.params ∷ labels) inner (pushed type.params []) type.results
       × ((next : Operands) × Leads (Exchange type.params type.results) before next × IsTyped (scope_in s types returns) labels rest next results))
-      → HaveTypes (state_context s) values before → HaveTypes (state_context s) locals (as_operands types)
+      → Have s values before → Have s locals (as_operands types)
       → ReductServes s (scope_in s types returns) labels results (block_entry locals o (Some inner) inner values rest)
   loop-serves types returns labels results locals None inner values rest before h st l = absurd h
   loop-serves types returns labels results locals (Some type) inner values rest before (typed, (next, (below, takes, is), follows)) st l =
@@ -143,26 +141,26 @@ module _ (s : State) (leaves : LeavesServe s) where
       → IsSomeAnd o (λ type. IsTyped (scope_in s types returns) (type.results ∷ labels) first (pushed type.params []) type.results
       × IsTyped (scope_in s types returns) (type.results ∷ labels) second (pushed type.params []) type.results
       × ((next : Operands) × Leads (Exchange (type.params ++ valtype.I32 ∷ []) type.results) before next × IsTyped (scope_in s types returns) labels rest next results))
-      → HaveTypes (state_context s) values before → HaveTypes (state_context s) locals (as_operands types)
+      → Have s values before → Have s locals (as_operands types)
       → ReductServes s (scope_in s types returns) labels results (if_entry locals o first second values rest)
   if-serves types returns labels results locals None first second values rest before h st l = absurd h
   if-serves types returns labels results locals (Some type) first second values rest before (one, other, (next, (below, takes, is), follows)) st l =
       let asked : reverse (type.params ++ valtype.I32 ∷ []) ≡ valtype.I32 ∷ reverse type.params = reverse-append type.params (valtype.I32 ∷ []) in
       let r = stand-taken (state_context s) (valtype.I32 ∷ reverse type.params) values before below (subst (λ (x : List ValType). Takes x before below) asked takes) st in
-      take-i32 (state_context s) (λ vs. HaveTypes (state_context s) (drop (suc (length (reverse type.params))) vs) below
+      take-i32 (state_context s) (λ vs. Have s (drop (suc (length (reverse type.params))) vs) below
       → ReductServes s (scope_in s types returns) labels results (if_entry locals (Some type) first second vs rest))
       (reverse type.params) (λ bits vs fit off stand. by bits vs off stand) values r.0 r.1
     where
-      by : (bits : ℕ) (vs : List Value) → Offered (state_context s) (reverse type.params) vs → HaveTypes (state_context s) (drop (length (reverse type.params)) vs) below
+      by : (bits : ℕ) (vs : List Value) → Offered (state_context s) (reverse type.params) vs → Have s (drop (length (reverse type.params)) vs) below
           → ReductServes s (scope_in s types returns) labels results (if_entry locals (Some type) first second (I32 bits ∷ vs) rest)
       by zero vs off stand = block_entry-serves types returns labels results locals type None second vs rest below next off stand is other refl follows l
       by (suc n) vs off stand = block_entry-serves types returns labels results locals type None first vs rest below next off stand is one refl follows l
 
   first-serves : (types returns : List ValType) (labels : Labels) (results : List ValType) (locals values : List Value) (code : Code) (before : Operands)
-      → IsTyped (scope_in s types returns) labels code before results → HaveTypes (state_context s) values before → HaveTypes (state_context s) locals (as_operands types)
+      → IsTyped (scope_in s types returns) labels code before results → Have s values before → Have s locals (as_operands types)
       → ReductServes s (scope_in s types returns) labels results (code_reduct s locals values code)
   first-serves types returns labels results locals values End before t st l =
-      subst (λ (x : Operands). HaveTypes (state_context s) values x) (as_operands-reverse results) (stand-whole (state_context s) (reverse results) values before t st)
+      subst (λ (x : Operands). Have s values x) (as_operands-reverse results) (stand-whole (state_context s) (reverse results) values before t st)
   first-serves types returns labels results locals values (Then leaf rest) before (next, leads, t) st l =
       found-serves types returns labels results locals rest (leaf_step s locals leaf values) next
       (leaves.serves types returns labels leaf locals values before next leads st l) t l
@@ -183,26 +181,24 @@ module _ (s : State) (leaves : LeavesServe s) where
 
   -- values that go to what follows
   follows-serves : (types returns : List ValType) (labels : Labels) (results ends : List ValType) (locals below : List Value) (rest : Code) (left : List Value)
-      → HaveTypes (state_context s) left (pushed ends []) → IsRestTyped (scope_in s types returns) labels ends below rest results
-      → HaveTypes (state_context s) locals (as_operands types)
+      → Have s left (pushed ends []) → IsRestTyped (scope_in s types returns) labels ends below rest results → Have s locals (as_operands types)
       → ReductServes s (scope_in s types returns) labels results (Goes Nothing locals (Innermost (left ++ below) rest))
   follows-serves types returns labels results ends locals below rest left h follows l =
       (tt, l, (pushed ends follows.operands, stand-pushed (state_context s) left below ends follows.operands h follows.values, follows.code))
 
   arrival-serves : (types returns : List ValType) (labels : Labels) (results carried ends : List ValType) (locals below : List Value) (count : ℕ) (again : Option Code) (rest : Code) (taken : List Value)
-      → count ≡ length carried → HaveTypes (state_context s) taken (pushed carried []) → Continues (scope_in s types returns) labels carried ends again
-      → IsRestTyped (scope_in s types returns) labels ends below rest results → HaveTypes (state_context s) locals (as_operands types)
+      → count ≡ length carried → Have s taken (pushed carried []) → Continues (scope_in s types returns) labels carried ends again
+      → IsRestTyped (scope_in s types returns) labels ends below rest results → Have s locals (as_operands types)
       → ReductServes s (scope_in s types returns) labels results (Goes Nothing locals (arrival below count again rest taken))
   arrival-serves types returns labels results carried ends locals below count None rest taken long h on follows l =
       follows-serves types returns labels results ends locals below rest taken
-      (subst (λ (x : List ValType). HaveTypes (state_context s) taken (pushed x [])) on h) follows l
+      (subst (λ (x : List ValType). Have s taken (pushed x [])) on h) follows l
   arrival-serves types returns labels results carried ends locals below count (Some again) rest taken long h on follows l =
       (tt, l, (carried, ends, long, (pushed carried [], h, on), on, follows))
 
   label-serves : (types returns : List ValType) (labels : Labels) (results carried ends : List ValType) (locals below : List Value) (count : ℕ) (again : Option Code) (rest : Code) (found : Reduct)
       → count ≡ length carried → Continues (scope_in s types returns) labels carried ends again → IsRestTyped (scope_in s types returns) labels ends below rest results
-      → HaveTypes (state_context s) locals (as_operands types)
-      → ReductServes s (scope_in s types returns) (carried ∷ labels) ends found
+      → Have s locals (as_operands types) → ReductServes s (scope_in s types returns) (carried ∷ labels) ends found
       → ReductServes s (scope_in s types returns) labels results (label_reduct locals below count again rest found)
   label-serves types returns labels results carried ends locals below count again rest (Goes change new inside) long on follows l f =
       (f.0, f.1, (carried, ends, long, f.2, on, follows))
@@ -215,7 +211,7 @@ module _ (s : State) (leaves : LeavesServe s) where
       if-true (λ (f : Reduct). ReductServes s (scope_in s types returns) labels results f) (nat_le count (length found))
       (Goes Nothing locals (arrival below count again rest (take count found))) Sticks (le-leb count (length found) enough)
       (arrival-serves types returns labels results carried ends locals below count again rest (take count found) long
-      (subst (λ (k : ℕ). HaveTypes (state_context s) (take k found) (pushed carried [])) (sym long) offered.carried) on follows l)
+      (subst (λ (k : ℕ). Have s (take k found) (pushed carried [])) (sym long) offered.carried) on follows l)
   label-serves types returns labels results carried ends locals below count again rest (Branches (suc label) found) long on follows l f = f
   label-serves types returns labels results carried ends locals below count again rest (Returns found) long on follows l f = f
   label-serves types returns labels results carried ends locals below count again rest (Pauses question inside) long on follows l f =
@@ -224,27 +220,24 @@ module _ (s : State) (leaves : LeavesServe s) where
   label-serves types returns labels results carried ends locals below count again rest Sticks long on follows l f = absurd f
 
   left-serves : (types returns : List ValType) (labels : Labels) (results ends : List ValType) (locals below : List Value) (count : ℕ) (rest : Code) (found : List Value)
-      → count ≡ length ends → IsRestTyped (scope_in s types returns) labels ends below rest results → HaveTypes (state_context s) locals (as_operands types)
-      → Offers (state_context s) found ends
-      → ReductServes s (scope_in s types returns) labels results (frame_left locals below count rest found)
+      → count ≡ length ends → IsRestTyped (scope_in s types returns) labels ends below rest results → Have s locals (as_operands types)
+      → Offers (state_context s) found ends → ReductServes s (scope_in s types returns) labels results (frame_left locals below count rest found)
   left-serves types returns labels results ends locals below count rest found long follows l offers =
       let enough : count ≤ length found = subst (λ (k : ℕ). k ≤ length found) (sym long) offers.enough in
       if-true (λ (f : Reduct). ReductServes s (scope_in s types returns) labels results f) (nat_le count (length found))
       (Goes Nothing locals (Innermost (take count found ++ below) rest)) Sticks (le-leb count (length found) enough)
       (follows-serves types returns labels results ends locals below rest (take count found)
-      (subst (λ (k : ℕ). HaveTypes (state_context s) (take k found) (pushed ends [])) (sym long) offers.carried) follows l)
+      (subst (λ (k : ℕ). Have s (take k found) (pushed ends [])) (sym long) offers.carried) follows l)
 
-  ends-long : (ends : List ValType) (count : ℕ) (left : List Value) → count ≡ length ends → HaveTypes (state_context s) left (pushed ends [])
-      → (length left == count) ≡ true
+  ends-long : (ends : List ValType) (count : ℕ) (left : List Value) → count ≡ length ends → Have s left (pushed ends []) → (length left == count) ≡ true
   ends-long ends count left long h =
       eq-eqb (length left) count
-      (stand-length (state_context s) left (reverse ends) (subst (λ (x : Operands). HaveTypes (state_context s) left x)
+      (stand-length (state_context s) left (reverse ends) (subst (λ (x : Operands). Have s left x)
       (sym (as_operands-reverse ends)) h) ∙ length-reverse ends ∙ sym long)
 
   frame-serves : (types returns : List ValType) (labels : Labels) (results own ends : List ValType) (locals below : List Value) (count : ℕ) (inner : List Value) (rest : Code) (found : Reduct)
-      → count ≡ length ends → HaveTypes (state_context s) inner (as_operands own) → IsRestTyped (scope_in s types returns) labels ends below rest results
-      → HaveTypes (state_context s) locals (as_operands types)
-      → ReductServes s (scope_in s own ends) (ends ∷ []) ends found
+      → count ≡ length ends → Have s inner (as_operands own) → IsRestTyped (scope_in s types returns) labels ends below rest results
+      → Have s locals (as_operands types) → ReductServes s (scope_in s own ends) (ends ∷ []) ends found
       → ReductServes s (scope_in s types returns) labels results (frame_reduct locals below count inner rest found)
   frame-serves types returns labels results own ends locals below count inner rest (Goes change new inside) long i follows l f =
       (f.0, l, (own, ends, long, f.1, f.2, follows))
@@ -265,7 +258,7 @@ module _ (s : State) (leaves : LeavesServe s) where
   frame-serves types returns labels results own ends locals below count inner rest Sticks long i follows l f = absurd f
 
   inside-serves : (types returns : List ValType) (labels : Labels) (results : List ValType) (locals : List Value) (inside : Inside)
-      → IsInsideTyped (scope_in s types returns) labels inside results → HaveTypes (state_context s) locals (as_operands types)
+      → IsInsideTyped (scope_in s types returns) labels inside results → Have s locals (as_operands types)
       → ReductServes s (scope_in s types returns) labels results (inside_reduct s locals inside)
   inside-serves types returns labels results locals (Innermost values code) (before, st, t) l = first-serves types returns labels results locals values code before t st l
   inside-serves types returns labels results locals (InLabel below count again inside rest) (carried, ends, long, t, on, follows) l =
@@ -277,22 +270,21 @@ module _ (s : State) (leaves : LeavesServe s) where
 
   -- ---- terms
 
-  in-order : (results : List ValType) (values : List Value) → HaveTypes (state_context s) values (pushed results [])
-      → HaveTypes (state_context s) (reverse values) (as_operands results)
+  in-order : (results : List ValType) (values : List Value) → Have s values (pushed results []) → Have s (reverse values) (as_operands results)
   in-order results values h =
-      subst (λ (x : List ValType). HaveTypes (state_context s) (reverse values) (as_operands x)) (reverse-reverse results)
-      (stand-reverse (state_context s) values (reverse results) (subst (λ (x : Operands). HaveTypes (state_context s) values x) (sym (as_operands-reverse results)) h))
+      subst (λ (x : List ValType). Have s (reverse values) (as_operands x)) (reverse-reverse results)
+      (stand-reverse (state_context s) values (reverse results) (subst (λ (x : Operands). Have s values x) (sym (as_operands-reverse results)) h))
 
   done-serves : (results : List ValType) (count : ℕ) (found : List Value) → count ≡ length results → Offers (state_context s) found results
       → IsAnswerTyped s results (results_answer count found)
   done-serves results count found long offers =
       let enough : count ≤ length found = subst (λ (k : ℕ). k ≤ length found) (sym long) offers.enough in
       if-true (λ (a : Answer). IsAnswerTyped s results a) (nat_le count (length found)) (Done (reverse (take count found))) Stuck (le-leb count (length found) enough)
-      (subst (λ (k : ℕ). HaveTypes (state_context s) (reverse (take k found)) (as_operands results)) (sym long)
+      (subst (λ (k : ℕ). Have s (reverse (take k found)) (as_operands results)) (sym long)
       (in-order results (take (length results) found) offers.carried))
 
   frame_answer-serves : (types results : List ValType) (count : ℕ) (locals : List Value) (found : Reduct) → count ≡ length results
-      → HaveTypes (state_context s) locals (as_operands types)
+      → Have s locals (as_operands types)
       → ReductServes s (scope_in s types results) (results ∷ []) results found → IsAnswerTyped s results (frame_answer count locals found)
   frame_answer-serves types results count locals (Goes change new inside) long l f = (f.0, (types, long, f.1, f.2))
   frame_answer-serves types results count locals (Finishes left) long l f =

@@ -23,7 +23,7 @@ use Rattle.wz_store.specs.Changes.{Nothing}
 use Rattle.wz_store.specs.State.{Global, Table, Element}
 use Rattle.wz_machine.specs.State.{State}
 use Rattle.wz_machine.specs.TypedState.{IsStateTyped, state_context}
-use Rattle.wz_machine.specs.TypedTerms.{HaveTypes, as_operands}
+use Rattle.wz_machine.specs.TypedTerms.{as_operands}
 use Rattle.wz_machine.specs.InstrSteps.{instr_step, leaf_step}
 use Rattle.wz_machine.specs.Outcomes.{Yields}
 use Rattle.wz_machine.specs.ReferenceSteps.{ref_is_null_step}
@@ -33,7 +33,7 @@ use Rattle.wz_machine.specs.TableSteps.{table_get_step, table_set_step, table_si
 use Rattle.wz_machine.specs.MemorySteps.{access_step, memory_size_step, memory_grow_step, memory_fill_step, memory_copy_step, memory_init_step, data_drop_step}
 use Rattle.wz_machine.specs.TypedLaws.{StepKeepsTyping}
 use Rattle.wz_machine.proofs.StuckPlain.{view-cases, const-serves, operation-serves, push-serves, null-of, is_null-serves, ref_func-serves, drop-serves, select-serves, get-serves, set_local-serves, tee-serves, global_set-serves, item-cases, typed_select-serves}
-use Rattle.wz_machine.proofs.StuckRelations.{scope_in, OutcomeServes, EffectServes, LeavesServe}
+use Rattle.wz_machine.proofs.StuckRelations.{Have, scope_in, OutcomeServes, EffectServes, LeavesServe}
 use Rattle.wz_machine.proofs.StuckOperands.{by-rule, rule-cases}
 use Rattle.wz_machine.proofs.TypedLemmas.{if-passed}
 use Rattle.wz_machine.proofs.StuckBranches.{branch-serves, branch_if-serves, offered-label, table_branch-serves}
@@ -69,12 +69,12 @@ same-kinds : (one other : RefKind) → one ≡ other → same_kind one other ≡
 same-kinds one other e = subst (λ (k : RefKind). same_kind one k ≡ true) e (same_kind-itself one)
 
 module _ (s : State) (typed : IsStateTyped (state_context s) s) (numbers : NumbersServe) where
-  module _ (types returns : List ValType) (labels : Labels) (locals : List Value) (stands : HaveTypes (state_context s) locals (as_operands types)) where
+  module _ (types returns : List ValType) (labels : Labels) (locals : List Value) (stands : Have s locals (as_operands types)) where
     abbrev three : List ValType
     three = valtype.I32 ∷ valtype.I32 ∷ valtype.I32 ∷ []
 
     instr-serves : (i : Instr) (values : List Value) (before next : Operands) → Leads (rule_of (scope_in s types returns) labels (Plain i)) before next
-        → HaveTypes (state_context s) values before → OutcomeServes s (scope_in s types returns) labels next (instr_step s locals i values)
+        → Have s values before → OutcomeServes s (scope_in s types returns) labels next (instr_step s locals i values)
     -- 4.4.1 numeric instructions
     instr-serves (instr.I32Const bits) values before next h st = const-serves s typed (I32 bits) valtype.I32 32 bits values before next (λ fit. fit) h st
     instr-serves (instr.I64Const bits) values before next h st = const-serves s typed (I64 bits) valtype.I64 64 bits values before next (λ fit. fit) h st
@@ -87,13 +87,13 @@ module _ (s : State) (typed : IsStateTyped (state_context s) s) (numbers : Numbe
         (push-serves s typed (Ref (Null kind)) (type_of_kind kind) (null-of s typed kind)) h st
     instr-serves instr.RefIsNull values before next (operand, below, is, test, leads) st =
         subst (λ (x : Operands). EffectServes s x (ref_is_null_step values)) (sym leads)
-        (is_null-serves s typed values operand below (subst (λ (x : Operands). HaveTypes (state_context s) values x) is st) test)
+        (is_null-serves s typed values operand below (subst (λ (x : Operands). Have s values x) is st) test)
     instr-serves (instr.RefFunc index) values before next h st = ref_func-serves s typed index values before next h st
     -- 4.4.4 parametric instructions
     instr-serves instr.Drop values before next h st = drop-serves s typed values before next h st
     instr-serves instr.Select values before next (condition, second, first, result, below, is, fit, two, one, num, leads) st =
         subst (λ (x : Operands). EffectServes s x (select_step values)) (sym leads)
-        (select-serves s typed values condition second first result below (subst (λ (x : Operands). HaveTypes (state_context s) values x) is st) fit two one)
+        (select-serves s typed values condition second first result below (subst (λ (x : Operands). Have s values x) is st) fit two one)
     -- 4.4.5 variable instructions
     instr-serves (instr.LocalGet index) values before next h st = get-serves s typed types returns labels locals stands index values before next h st
     instr-serves (instr.LocalSet index) values before next h st = set_local-serves s typed types returns labels locals stands index values before next h st
@@ -196,14 +196,14 @@ module _ (s : State) (typed : IsStateTyped (state_context s) s) (numbers : Numbe
     instr-serves (instr.SelectTyped from count) values before next h st = absurd h
 
     select_types-serves : (asked : List ValType) (values : List Value) (before next : Operands) → Leads (select_rule asked) before next
-        → HaveTypes (state_context s) values before → EffectServes s next (select_step values)
+        → Have s values before → EffectServes s next (select_step values)
     select_types-serves [] values before next h st = absurd h
     select_types-serves (type ∷ []) values before next h st =
         by-rule s (λ vs. select_step vs) (type ∷ type ∷ valtype.I32 ∷ []) (type ∷ []) values before next (typed_select-serves s typed type) h st
     select_types-serves (type ∷ other ∷ asked) values before next h st = absurd h
 
     leaf-serves : (leaf : Leaf) (values : List Value) (before next : Operands) → Leads (rule_of (scope_in s types returns) labels leaf) before next
-        → HaveTypes (state_context s) values before → OutcomeServes s (scope_in s types returns) labels next (leaf_step s locals leaf values)
+        → Have s values before → OutcomeServes s (scope_in s types returns) labels next (leaf_step s locals leaf values)
     leaf-serves (Plain i) values before next h st = instr-serves i values before next h st
     leaf-serves (TypedSelect asked) values before next h st = select_types-serves asked values before next h st
     leaf-serves (TableBranch others last) values before next h st = table_branch-serves s typed types returns labels others last values before next h st

@@ -18,8 +18,7 @@ use Rattle.wz_valid_code.specs.Operands.{Operands, pushed}
 use Rattle.wz_machine.specs.TypedState.{HasType, state_context}
 use Rattle.wz_machine.specs.State.{State}
 use Rattle.wz_machine.specs.Outcomes.{Effect}
-use Rattle.wz_machine.specs.TypedTerms.{HaveTypes}
-use Rattle.wz_machine.proofs.StuckRelations.{Offered, EffectServes}
+use Rattle.wz_machine.proofs.StuckRelations.{Have, Offered, EffectServes}
 use Rattle.wz_machine.proofs.StuckValues.{stand-taken}
 
 -- ---- tests
@@ -113,11 +112,11 @@ rule-cases {X = X} {Y = Y} view xs i R P before next h use_it =
 -- an effect does what a rule says that takes and gives these types
 abbrev pub Serves : State → (List Value → Effect) → List ValType → List ValType → Type 0
 Serves s f takes gives =
-    (values : List Value) (below : Operands) → Offered (state_context s) (reverse takes) values → HaveTypes (state_context s) (drop (length (reverse takes)) values) below
+    (values : List Value) (below : Operands) → Offered (state_context s) (reverse takes) values → Have s (drop (length (reverse takes)) values) below
     → EffectServes s (pushed gives below) (f values)
 
 pub by-rule : (s : State) (f : List Value → Effect) (takes gives : List ValType) (values : List Value) (before next : Operands) → Serves s f takes gives
-    → Leads (Exchange takes gives) before next → HaveTypes (state_context s) values before → EffectServes s next (f values)
+    → Leads (Exchange takes gives) before next → Have s values before → EffectServes s next (f values)
 by-rule s f takes gives values before next serves (below, t, is) st =
     let r = stand-taken (state_context s) (reverse takes) values before below t st in
     subst (λ (x : Operands). EffectServes s x (f values)) (sym is) (serves values below r.0 r.1)

@@ -35,7 +35,7 @@ use Rattle.wz_machine.specs.ParametricSteps.{drop_step, select_step}
 use Rattle.wz_machine.specs.ReferenceSteps.{ref_is_null_step, ref_func_step}
 use Rattle.wz_machine.specs.VariableSteps.{global_set_step, local_get_step, local_set_step, local_tee_step}
 use Rattle.wz_machine.proofs.StuckOperands.{take-i32, Serves, by-rule, take-ref, if-true}
-use Rattle.wz_machine.proofs.StuckRelations.{EffectServes, Offered, OutcomeServes, scope_in}
+use Rattle.wz_machine.proofs.StuckRelations.{Have, EffectServes, Offered, OutcomeServes, scope_in}
 use Rattle.wz_machine.proofs.TypedLemmas.{if-passed}
 use Rattle.wz_machine.proofs.StuckValues.{stand-taken}
 
@@ -71,8 +71,7 @@ module _ (context : TypingContext) where
   stand-get (v ∷ values) (t ∷ types) (suc i) type h e = stand-get values types i type h.1 e
 
   stand-set : (values : List Value) (types : List ValType) (i : ℕ) (type : ValType) (value : Value) → HaveTypes context values (as_operands types)
-      → slice_get types i ≡ Some type → HasType context value type
-      → HaveTypes context (slice_set values i value) (as_operands types)
+      → slice_get types i ≡ Some type → HasType context value type → HaveTypes context (slice_set values i value) (as_operands types)
   stand-set [] [] i type value h e fit = absurd (cc e)
   stand-set [] (t ∷ types) i type value h e fit = absurd h
   stand-set (v ∷ values) [] i type value h e fit = absurd h
@@ -87,13 +86,13 @@ module _ (s : State) (typed : IsStateTyped (state_context s) s) where
 
   pub const-serves : (value : Value) (type : ValType) (width bits : ℕ) (values : List Value) (before next : Operands)
       → (IsTrue (nat_lt bits (2 ^ width)) → HasType (state_context s) value type)
-      → Leads (constant_of type width bits) before next → HaveTypes (state_context s) values before → EffectServes s next (const_step value values)
+      → Leads (constant_of type width bits) before next → Have s values before → EffectServes s next (const_step value values)
   const-serves value type width bits values before next fit h st =
       let r = if-passed (nat_lt bits (2 ^ width)) (Exchange [] (type ∷ [])) before next h in
       by-rule s (λ vs. Yields Nothing (value ∷ vs)) [] (type ∷ []) values before next (push-serves value type (fit r.0)) r.1 st
 
   result-serves : (op : NumOp) (operands values : List Value) (below : Operands) (n : NumAnswer)
-      → AnswerServes (types_of op).result (length (state_context s).functions) (length (state_context s).types) n → HaveTypes (state_context s) values below
+      → AnswerServes (types_of op).result (length (state_context s).functions) (length (state_context s).types) n → Have s values below
       → EffectServes s (Some (types_of op).result ∷ below) (result_effect op operands values n)
   result-serves op operands values below (answer.Gives value) h st = (tt, (h, st))
   result-serves op operands values below (answer.Trap kind) h st = tt
@@ -105,11 +104,10 @@ module _ (s : State) (typed : IsStateTyped (state_context s) s) where
   AllFit op operands second = IsTrue (all_fit operands (listed_types (types_of op).first second) (length (state_context s).functions) (length (state_context s).types))
 
   pub operation-serves : NumbersServe → (op : NumOp) (values : List Value) (before next : Operands) → Leads (operation_rule (types_of op)) before next
-      → HaveTypes (state_context s) values before → EffectServes s next (operation_step op (types_of op).second values)
+      → Have s values before → EffectServes s next (operation_step op (types_of op).second values)
   operation-serves numbers op values before next (below, t, is) st = by (types_of op).second refl t
     where
-      one : (types_of op).second ≡ None → (values : List Value) → Offered (state_context s) ((types_of op).first ∷ []) values
-          → HaveTypes (state_context s) (drop 1 values) below
+      one : (types_of op).second ≡ None → (values : List Value) → Offered (state_context s) ((types_of op).first ∷ []) values → Have s (drop 1 values) below
           → EffectServes s (Some (types_of op).result ∷ below) (operation_step op None values)
       one same [] off st = absurd off
       one same (a ∷ values) off st =
@@ -119,7 +117,7 @@ module _ (s : State) (typed : IsStateTyped (state_context s) s) where
           (and-intro (value_fits a (types_of op).first (length (state_context s).functions) (length (state_context s).types)) true off.0 refl))) st
 
       two : (type : ValType) → (types_of op).second ≡ Some type → (values : List Value) → Offered (state_context s) (type ∷ (types_of op).first ∷ []) values
-          → HaveTypes (state_context s) (drop 2 values) below → EffectServes s (Some (types_of op).result ∷ below) (operation_step op (Some type) values)
+          → Have s (drop 2 values) below → EffectServes s (Some (types_of op).result ∷ below) (operation_step op (Some type) values)
       two type same [] off st = absurd off
       two type same (b ∷ []) off st = absurd off.1
       two type same (b ∷ a ∷ values) off st =
@@ -141,18 +139,16 @@ module _ (s : State) (typed : IsStateTyped (state_context s) s) where
 
   -- ---- parametric instructions
 
-  pub drop-serves : (values : List Value) (before next : Operands) → Leads DropOne before next → HaveTypes (state_context s) values before
-      → EffectServes s next (drop_step values)
-  drop-serves [] before next (operand, is) st = absurd (subst (λ (x : Operands). HaveTypes (state_context s) [] x) is st)
-  drop-serves (value ∷ values) before next (operand, is) st = by operand (subst (λ (x : Operands). HaveTypes (state_context s) (value ∷ values) x) is st)
+  pub drop-serves : (values : List Value) (before next : Operands) → Leads DropOne before next → Have s values before → EffectServes s next (drop_step values)
+  drop-serves [] before next (operand, is) st = absurd (subst (λ (x : Operands). Have s [] x) is st)
+  drop-serves (value ∷ values) before next (operand, is) st = by operand (subst (λ (x : Operands). Have s (value ∷ values) x) is st)
     where
-      by : (operand : Operand) → HaveTypes (state_context s) (value ∷ values) (operand ∷ next) → EffectServes s next (drop_step (value ∷ values))
+      by : (operand : Operand) → Have s (value ∷ values) (operand ∷ next) → EffectServes s next (drop_step (value ∷ values))
       by None st = absurd st
       by (Some type) st = (tt, st.1)
 
   picked-serves : (c b a : Value) (values : List Value) (result : Operand) (below : Operands) → HasType (state_context s) c valtype.I32
-      → HaveTypes (state_context s) (b ∷ values) (result ∷ below)
-      → HaveTypes (state_context s) (a ∷ values) (result ∷ below) → EffectServes s (result ∷ below) (select_step (c ∷ b ∷ a ∷ values))
+      → Have s (b ∷ values) (result ∷ below) → Have s (a ∷ values) (result ∷ below) → EffectServes s (result ∷ below) (select_step (c ∷ b ∷ a ∷ values))
   picked-serves c b a values result below fit second first =
       let r = i32-of (state_context s) c fit in subst (λ (x : Value). EffectServes s (result ∷ below) (select_step (x ∷ b ∷ a ∷ values))) (sym r.1) (by r.0)
     where
@@ -160,13 +156,12 @@ module _ (s : State) (typed : IsStateTyped (state_context s) s) where
       by zero = (tt, second)
       by (suc n) = (tt, first)
 
-  pub select-serves : (values : List Value) (condition second first result : Operand) (below : Operands)
-      → HaveTypes (state_context s) values (condition ∷ second ∷ first ∷ below)
+  pub select-serves : (values : List Value) (condition second first result : Operand) (below : Operands) → Have s values (condition ∷ second ∷ first ∷ below)
       → IsTrue (fits condition valtype.I32) → Becomes second result → Becomes first result → EffectServes s (result ∷ below) (select_step values)
   select-serves (c ∷ b ∷ a ∷ values) (Some tc) (Some tb) (Some ta) result below (hc, (hb, (ha, st))) fit two one =
       picked-serves c b a values result below (subst (λ (x : ValType). HasType (state_context s) c x) (same_type-true tc valtype.I32 fit) hc)
-      (subst (λ (o : Operand). HaveTypes (state_context s) (b ∷ values) (o ∷ below)) (sym two) (hb, st))
-      (subst (λ (o : Operand). HaveTypes (state_context s) (a ∷ values) (o ∷ below)) (sym one) (ha, st))
+      (subst (λ (o : Operand). Have s (b ∷ values) (o ∷ below)) (sym two) (hb, st))
+      (subst (λ (o : Operand). Have s (a ∷ values) (o ∷ below)) (sym one) (ha, st))
   select-serves [] condition second first result below st fit two one = absurd st
   select-serves (c ∷ values) None second first result below st fit two one = absurd st
   select-serves (c ∷ []) (Some tc) second first result below st fit two one = absurd st.1
@@ -182,24 +177,24 @@ module _ (s : State) (typed : IsStateTyped (state_context s) s) where
 
   -- ---- reference instructions
 
-  null-test : (reference : Reference) (values : List Value) (below : Operands) → HaveTypes (state_context s) values below
+  null-test : (reference : Reference) (values : List Value) (below : Operands) → Have s values below
       → EffectServes s (Some valtype.I32 ∷ below) (ref_is_null_step (Ref reference ∷ values))
   null-test (Null kind) values below st = (tt, (refl, st))
   null-test (Fn index) values below st = (tt, (refl, st))
   null-test (Foreign id sort) values below st = (tt, (refl, st))
 
-  tested-serves : (type : ValType) (values : List Value) (below : Operands) → HaveTypes (state_context s) values (Some type ∷ below) → IsTrue (is_reference (Some type))
+  tested-serves : (type : ValType) (values : List Value) (below : Operands) → Have s values (Some type ∷ below) → IsTrue (is_reference (Some type))
       → EffectServes s (Some valtype.I32 ∷ below) (ref_is_null_step values)
   tested-serves type [] below st h = absurd st
   tested-serves valtype.FuncRef (value ∷ values) below st h =
-      take-ref (state_context s) (λ vs. HaveTypes (state_context s) (drop 1 vs) below → EffectServes s (Some valtype.I32 ∷ below) (ref_is_null_step vs)) kind.Func []
+      take-ref (state_context s) (λ vs. Have s (drop 1 vs) below → EffectServes s (Some valtype.I32 ∷ below) (ref_is_null_step vs)) kind.Func []
       (λ reference vs fit off st. null-test reference vs below st) (value ∷ values) (st.0, tt) st.1
   tested-serves valtype.ExternRef (value ∷ values) below st h =
-      take-ref (state_context s) (λ vs. HaveTypes (state_context s) (drop 1 vs) below → EffectServes s (Some valtype.I32 ∷ below) (ref_is_null_step vs)) kind.Extern []
+      take-ref (state_context s) (λ vs. Have s (drop 1 vs) below → EffectServes s (Some valtype.I32 ∷ below) (ref_is_null_step vs)) kind.Extern []
       (λ reference vs fit off st. null-test reference vs below st) (value ∷ values) (st.0, tt) st.1
   tested-serves type (value ∷ values) below st h = absurd (cc h)
 
-  pub is_null-serves : (values : List Value) (operand : Operand) (below : Operands) → HaveTypes (state_context s) values (operand ∷ below) → IsTrue (is_reference operand)
+  pub is_null-serves : (values : List Value) (operand : Operand) (below : Operands) → Have s values (operand ∷ below) → IsTrue (is_reference operand)
       → EffectServes s (Some valtype.I32 ∷ below) (ref_is_null_step values)
   is_null-serves [] operand below st h = absurd st
   is_null-serves (value ∷ values) None below st h = absurd st
@@ -211,7 +206,7 @@ module _ (s : State) (typed : IsStateTyped (state_context s) s) where
 
   pub ref_func-serves : (index : ℕ) (values : List Value) (before next : Operands)
       → Leads (rule_if (may_refer (state_context s) index) (Exchange [] (valtype.FuncRef ∷ []))) before next
-      → HaveTypes (state_context s) values before → EffectServes s next (ref_func_step index (slice_get s.functions index) values)
+      → Have s values before → EffectServes s next (ref_func_step index (slice_get s.functions index) values)
   ref_func-serves index values before next h st =
       let r = if-passed (may_refer (state_context s) index) (Exchange [] (valtype.FuncRef ∷ [])) before next h in
       let p = and_parts (is_some (slice_get (state_context s).functions index)) (has_number index (state_context s).declared) r.0 in
@@ -242,8 +237,7 @@ module _ (s : State) (typed : IsStateTyped (state_context s) s) where
   set-if false type R before next h = absurd h
 
   pub global_set-serves : (index : ℕ) (values : List Value) (before next : Operands)
-      → Leads (rule_from (type_to_set (slice_get (state_context s).globals index)) (λ type. Exchange (type ∷ []) [])) before next
-      → HaveTypes (state_context s) values before
+      → Leads (rule_from (type_to_set (slice_get (state_context s).globals index)) (λ type. Exchange (type ∷ []) [])) before next → Have s values before
       → EffectServes s next (global_set_step (length s.functions) (length s.types) index (slice_get s.globals index) values)
   global_set-serves index values before next h st =
       by (slice_get s.globals index) refl
@@ -261,9 +255,9 @@ module _ (s : State) (typed : IsStateTyped (state_context s) s) where
 
   -- ---- locals
 
-  module _ (types returns : List ValType) (labels : Labels) (locals : List Value) (stands : HaveTypes (state_context s) locals (as_operands types)) where
+  module _ (types returns : List ValType) (labels : Labels) (locals : List Value) (stands : Have s locals (as_operands types)) where
     pub get-serves : (index : ℕ) (values : List Value) (before next : Operands) → Leads (rule_from (slice_get types index) (λ type. Exchange [] (type ∷ []))) before next
-        → HaveTypes (state_context s) values before → EffectServes s next (local_get_step (slice_get locals index) values)
+        → Have s values before → EffectServes s next (local_get_step (slice_get locals index) values)
     get-serves index values before next h st = by (slice_get types index) refl h
       where
         by : (o : Option ValType) → slice_get types index ≡ o → Leads (rule_from o (λ type. Exchange [] (type ∷ []))) before next
@@ -276,12 +270,11 @@ module _ (s : State) (typed : IsStateTyped (state_context s) s) where
 
     pub set_local-serves : (index : ℕ) (values : List Value) (before next : Operands)
         → Leads (rule_from (slice_get types index) (λ type. Exchange (type ∷ []) [])) before next
-        → HaveTypes (state_context s) values before → OutcomeServes s (scope_in s types returns) labels next (local_set_step locals index (slice_get locals index) values)
+        → Have s values before → OutcomeServes s (scope_in s types returns) labels next (local_set_step locals index (slice_get locals index) values)
     set_local-serves index values before next h st = by (slice_get types index) refl h
       where
         one : (type : ValType) (values : List Value) (below : Operands) → slice_get types index ≡ Some type → Offered (state_context s) (type ∷ []) values
-            → HaveTypes (state_context s) (drop 1 values) below
-            → OutcomeServes s (scope_in s types returns) labels below (local_set_step locals index (slice_get locals index) values)
+            → Have s (drop 1 values) below → OutcomeServes s (scope_in s types returns) labels below (local_set_step locals index (slice_get locals index) values)
         one type [] below is off st = absurd off
         one type (value ∷ values) below is off st =
             let r = stand-get (state_context s) locals types index type stands is in
@@ -298,11 +291,11 @@ module _ (s : State) (typed : IsStateTyped (state_context s) s) where
 
     pub tee-serves : (index : ℕ) (values : List Value) (before next : Operands)
         → Leads (rule_from (slice_get types index) (λ type. Exchange (type ∷ []) (type ∷ []))) before next
-        → HaveTypes (state_context s) values before → OutcomeServes s (scope_in s types returns) labels next (local_tee_step locals index (slice_get locals index) values)
+        → Have s values before → OutcomeServes s (scope_in s types returns) labels next (local_tee_step locals index (slice_get locals index) values)
     tee-serves index values before next h st = by (slice_get types index) refl h
       where
         one : (type : ValType) (values : List Value) (below : Operands) → slice_get types index ≡ Some type → Offered (state_context s) (type ∷ []) values
-            → HaveTypes (state_context s) (drop 1 values) below
+            → Have s (drop 1 values) below
             → OutcomeServes s (scope_in s types returns) labels (Some type ∷ below) (local_tee_step locals index (slice_get locals index) values)
         one type [] below is off st = absurd off
         one type (value ∷ values) below is off st =

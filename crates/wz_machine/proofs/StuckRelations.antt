@@ -27,11 +27,15 @@ pub record Offers (context : TypingContext) (values : List Value) (types : List 
   pub enough : length types ≤ length values
   pub carried : HaveTypes context (take (length types) values) (pushed types [])
 
+-- values of these types, in the context of the state
+abbrev pub Have : State → List Value → Operands → Type 0
+Have s values operands = HaveTypes (state_context s) values operands
+
 -- the effect leaves values of these types, once its question is answered
 abbrev pub EffectServes : State → Operands → Effect → Type 0
-EffectServes s next (Yields change values) = IsChangeTyped s change × HaveTypes (state_context s) values next
+EffectServes s next (Yields change values) = IsChangeTyped s change × Have s values next
 EffectServes s next (Poses question values) =
-    (below : Operands) × HaveTypes (state_context s) values below × (next ≡ pushed (answer_types question) below) × IsQuestionTyped (state_context s) question
+    (below : Operands) × Have s values below × (next ≡ pushed (answer_types question) below) × IsQuestionTyped (state_context s) question
 EffectServes s next (Fails kind) = Unit {0}
 EffectServes s next HasNoRule = ⊥
 
@@ -49,7 +53,7 @@ pub record CallServes (context : TypingContext) (count : ℕ) (inner : List Valu
 abbrev pub OutcomeServes : State → Scope → Labels → Operands → Outcome → Type 0
 OutcomeServes s scope labels next (Does effect) = EffectServes s next effect
 OutcomeServes s scope labels next (SetsLocals locals values) =
-    HaveTypes (state_context s) locals (as_operands scope.locals) × HaveTypes (state_context s) values next
+    Have s locals (as_operands scope.locals) × Have s values next
 OutcomeServes s scope labels next (Jumps label values) =
     (types : List ValType) × (slice_get labels label ≡ Some types) × Offers (state_context s) values types
 OutcomeServes s scope labels next (Quits values) = Offers (state_context s) values scope.results
@@ -58,14 +62,14 @@ OutcomeServes s scope labels next (Calls count inner code values) = CallServes (
 -- the same for what a step of an inside comes to that gives these results
 abbrev pub ReductServes : State → Scope → Labels → List ValType → Reduct → Type 0
 ReductServes s scope labels results (Goes change locals inside) =
-    IsChangeTyped s change × HaveTypes (state_context s) locals (as_operands scope.locals) × IsInsideTyped scope labels inside results
-ReductServes s scope labels results (Finishes values) = HaveTypes (state_context s) values (pushed results [])
+    IsChangeTyped s change × Have s locals (as_operands scope.locals) × IsInsideTyped scope labels inside results
+ReductServes s scope labels results (Finishes values) = Have s values (pushed results [])
 ReductServes s scope labels results (Branches label values) =
     (types : List ValType) × (slice_get labels label ≡ Some types) × Offers (state_context s) values types
 ReductServes s scope labels results (Returns values) = Offers (state_context s) values scope.results
 ReductServes s scope labels results (Pauses question inside) =
     IsQuestionTyped (state_context s) question
-    × ((values : List Value) → HaveTypes (state_context s) values (pushed (answer_types question) []) → IsInsideTyped scope labels (put_inside values inside) results)
+    × ((values : List Value) → Have s values (pushed (answer_types question) []) → IsInsideTyped scope labels (put_inside values inside) results)
 ReductServes s scope labels results (Traps kind) = Unit {0}
 ReductServes s scope labels results Sticks = ⊥
 
@@ -75,6 +79,5 @@ scope_in s types results = scope_with (state_context s) types results
 -- each instruction that holds no others does what its rule says
 pub record LeavesServe (s : State) : Type 0 where
   pub serves : (types results : List ValType) (labels : Labels) (leaf : Leaf) (locals values : List Value) (before next : Operands)
-      → Leads (rule_of (scope_in s types results) labels leaf) before next → HaveTypes (state_context s) values before
-      → HaveTypes (state_context s) locals (as_operands types)
+      → Leads (rule_of (scope_in s types results) labels leaf) before next → Have s values before → Have s locals (as_operands types)
       → OutcomeServes s (scope_in s types results) labels next (leaf_step s locals leaf values)

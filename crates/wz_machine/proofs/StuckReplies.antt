@@ -19,7 +19,7 @@ use Rattle.wz_store.specs.Changes.{GrowMemory, GrowTable}
 use Rattle.wz_machine.specs.State.{State, FunctionBody, OwnBody, ImportedBody, NoBody, callable_at, FunctionInstance, callable_from, Callable}
 use Rattle.wz_machine.specs.Replies.{Reply, refusal, event_reply, question_event, fits_in, all_fit_in, takes_values, entry_reply, call_reply, may_enter, answer_reply, tick_reply, float_reply, put, memory_grown, change_reply, table_grown, grow_reply, return_reply, abort_reply}
 use Rattle.wz_machine.specs.TypedSteps.{IsChangeTyped, IsNotStuck, IsAnswerTyped}
-use Rattle.wz_machine.specs.TypedTerms.{IsStackTyped, HaveTypes, as_operands, IsStandingTyped, IsTermTyped, answer_types}
+use Rattle.wz_machine.specs.TypedTerms.{IsStackTyped, as_operands, IsStandingTyped, IsTermTyped, answer_types}
 use Rattle.wz_machine.specs.TypedState.{state_context, IsStateTyped, HasType, BodyTyped}
 use Rattle.wz_machine.specs.Terms.{Standing, Question, AskFloat, AskMemory, AskTable, AskHost, Runs, Waits, Term}
 use Rattle.wz_machine.specs.Moves.{Event, Went}
@@ -30,6 +30,7 @@ use Rattle.wz_machine.specs.Step.{step}
 use Rattle.wz_machine.specs.declared.questions.FloatReply.{FloatReply}
 use Rattle.wz_machine.specs.BulkSteps.{minus_one}
 use Rattle.wz_machine.specs.declared.questions.FloatReply.TheVariants as reply
+use Rattle.wz_machine.proofs.StuckRelations.{Have}
 use Rattle.wz_machine.proofs.StuckValues.{as_operands-reverse, stand-reverse, stand-pushed}
 use Rattle.wz_machine.proofs.StuckCalls.{locals-start, callable_at-there}
 use Rattle.wz_machine.proofs.StuckOperands.{if-tested}
@@ -60,17 +61,16 @@ module _ (s : State) (typed : IsStateTyped (state_context s) s) where
   pub fits-type : (value : Value) (type : ValType) → fits_in s value type ≡ true → HasType (state_context s) value type
   fits-type value type h = subst (λ (n : ℕ). value_fits value type n (length s.types) ≡ true) (sym (length-map s.functions (λ function. function.signature))) h
 
-  all-stand : (values : List Value) (types : List ValType) → all_fit_in s values types ≡ true → HaveTypes (state_context s) values (as_operands types)
+  all-stand : (values : List Value) (types : List ValType) → all_fit_in s values types ≡ true → Have s values (as_operands types)
   all-stand [] [] h = tt
   all-stand [] (t ∷ types) h = absurd (cc h)
   all-stand (v ∷ values) [] h = absurd (cc h)
   all-stand (v ∷ values) (t ∷ types) h =
       let r = and_parts (fits_in s v t) (all_fit_in s values types) h in (fits-type v t r.0, all-stand values types r.1)
 
-  turned-stand : (values : List Value) (types : List ValType) → HaveTypes (state_context s) values (as_operands types)
-      → HaveTypes (state_context s) (reverse values) (pushed types [])
+  turned-stand : (values : List Value) (types : List ValType) → Have s values (as_operands types) → Have s (reverse values) (pushed types [])
   turned-stand values types h =
-      subst (λ (x : Operands). HaveTypes (state_context s) (reverse values) x) (as_operands-reverse types) (stand-reverse (state_context s) values types h)
+      subst (λ (x : Operands). Have s (reverse values) x) (as_operands-reverse types) (stand-reverse (state_context s) values types h)
 
   -- ---- growth within the limits
 
@@ -95,7 +95,7 @@ module _ (s : State) (typed : IsStateTyped (state_context s) s) (numbers : Numbe
   -- ---- calls and steps
 
   body-entered : (type : FunctionType) (body : FunctionBody) (values : List Value) → BodyTyped (state_context s) type body
-      → HaveTypes (state_context s) values (as_operands type.params) → IsSomeAnd (entered_body type body values) (λ standing. IsStandingTyped (state_context s) standing)
+      → Have s values (as_operands type.params) → IsSomeAnd (entered_body type body values) (λ standing. IsStandingTyped (state_context s) standing)
   body-entered type (OwnBody locals code) values b st =
       (type.results, (type.params ++ locals, refl, locals-start (state_context s) type.params locals values st, ([], tt, b)))
   body-entered type (ImportedBody index) values b st =
@@ -118,8 +118,7 @@ module _ (s : State) (typed : IsStateTyped (state_context s) s) (numbers : Numbe
           (body-entered type function.body values r.2 (all-stand s typed values type.params fits))
 
   entry-serves : (stack : List Standing) (o : Option Standing) → IsStackTyped (state_context s) stack
-      → IsSomeAnd o (λ standing. IsStandingTyped (state_context s) standing)
-      → ReplyServes s (entry_reply stack o)
+      → IsSomeAnd o (λ standing. IsStandingTyped (state_context s) standing) → ReplyServes s (entry_reply stack o)
   entry-serves stack None h t = absurd t
   entry-serves stack (Some (Runs term)) h t = event-serves s Went tt (Runs term ∷ stack) (t, h)
   entry-serves stack (Some (Waits question rest)) h t = record { change = tt; stack = (t, h); event = question-event question }
@@ -162,13 +161,12 @@ module _ (s : State) (typed : IsStateTyped (state_context s) s) (numbers : Numbe
 
   -- an i32 answers a growth
   grown-by : (term : Term) (results : List ValType) (bits : ℕ) → bits < 2 ^ 32
-      → ((values : List Value) → HaveTypes (state_context s) values (pushed (valtype.I32 ∷ []) []) → IsTermTyped (state_context s) (put values term) results)
+      → ((values : List Value) → Have s values (pushed (valtype.I32 ∷ []) []) → IsTermTyped (state_context s) (put values term) results)
       → IsTermTyped (state_context s) (put (I32 bits ∷ []) term) results
   grown-by term results bits lt h = h (I32 bits ∷ []) (lt-ltb bits (2 ^ 32) lt, tt)
 
   memory-serves : (stack : List Standing) (index by : ℕ) (rest : Term) (below : List Standing) (memory : Option Memory) → slice_get s.memories index ≡ memory
-      → IsStackTyped (state_context s) stack
-      → IsStandingTyped (state_context s) (Waits (AskMemory index by) rest) → IsStackTyped (state_context s) below
+      → IsStackTyped (state_context s) stack → IsStandingTyped (state_context s) (Waits (AskMemory index by) rest) → IsStackTyped (state_context s) below
       → ReplyServes s (memory_grown stack index by rest below memory)
   memory-serves stack index by rest below None is h w b = refusal-serves s stack h
   memory-serves stack index by rest below (Some memory) is h w b =
@@ -210,7 +208,7 @@ module _ (s : State) (typed : IsStateTyped (state_context s) s) (numbers : Numbe
       → ReplyServes s (event_reply Went (Runs (put (minus_one ∷ []) rest) ∷ below))
   minus-serves question rest below same w b =
       event-serves s Went tt (Runs (put (minus_one ∷ []) rest) ∷ below)
-      ((w.0, w.1.answered (minus_one ∷ []) (subst (λ (ts : List ValType). HaveTypes (state_context s) (minus_one ∷ []) (pushed ts [])) (sym same) (refl, tt))), b)
+      ((w.0, w.1.answered (minus_one ∷ []) (subst (λ (ts : List ValType). Have s (minus_one ∷ []) (pushed ts [])) (sym same) (refl, tt))), b)
 
   pub grow-serves : (stack : List Standing) (granted : Bool) → IsStackTyped (state_context s) stack → ReplyServes s (grow_reply s stack granted)
   grow-serves (Waits (AskMemory index by) rest ∷ below) true h =

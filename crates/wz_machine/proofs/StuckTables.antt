@@ -19,34 +19,30 @@ use Rattle.wz_bulk.specs.TableEffects.{entry_or_trap, entries_effect}
 use Rattle.wz_bulk.specs.Effects.{BulkEffect, Makes, Aborts, Misfits, within}
 use Rattle.wz_machine.specs.State.{State}
 use Rattle.wz_machine.specs.TypedState.{IsStateTyped, state_context, HaveKind, HasType}
-use Rattle.wz_machine.specs.TypedTerms.{HaveTypes}
 use Rattle.wz_machine.specs.TableSteps.{entry_effect, table_get_step, table_set_step, table_size_step, table_grow_step, table_init_step, table_copy_step, table_fill_step}
 use Rattle.wz_machine.specs.BulkSteps.{bulk_step, minus_one}
 use Rattle.wz_machine.specs.Outcomes.{Effect, Poses, Yields, HasNoRule}
 use Rattle.wz_machine.specs.Terms.{AskTable}
-use Rattle.wz_machine.proofs.StuckRelations.{EffectServes}
+use Rattle.wz_machine.proofs.StuckRelations.{Have, EffectServes}
 use Rattle.wz_machine.proofs.StuckOperands.{Serves, take-i32, if-true, if-tested, take-ref, kind-fits, take-three}
 use Rattle.wz_machine.proofs.StuckParts.{every-one, every-part, every-same}
 use Rattle.wz_machine.proofs.LeafLemmas.{if-both}
 
 module _ (s : State) (typed : IsStateTyped (state_context s) s) where
   entry-serves : (kind : RefKind) (entries : List Reference) (o : Option Reference) (at : ℕ) (values : List Value) (below : Operands) → slice_get entries at ≡ o
-      → HaveKind (state_context s) kind entries → HaveTypes (state_context s) values below
-      → EffectServes s (Some (type_of_kind kind) ∷ below) (entry_effect (entry_or_trap o) values)
+      → HaveKind (state_context s) kind entries → Have s values below → EffectServes s (Some (type_of_kind kind) ∷ below) (entry_effect (entry_or_trap o) values)
   entry-serves kind entries None at values below is every st = tt
   entry-serves kind entries (Some reference) at values below is every st = (tt, (every at reference is, st))
 
   pub get-serves : (index : ℕ) (table : Table) → slice_get s.tables index ≡ Some table
       → Serves s (λ vs. table_get_step (Some table) vs) (valtype.I32 ∷ []) (type_of_kind table.kind ∷ [])
   get-serves index table is values below off st =
-      take-i32 (state_context s) (λ vs. HaveTypes (state_context s) (drop 1 vs) below
-      → EffectServes s (Some (type_of_kind table.kind) ∷ below) (table_get_step (Some table) vs)) []
+      take-i32 (state_context s) (λ vs. Have s (drop 1 vs) below → EffectServes s (Some (type_of_kind table.kind) ∷ below) (table_get_step (Some table) vs)) []
       (λ at vs lt off st. entry-serves table.kind table.entries (slice_get table.entries at) at vs below refl (typed.tables index table is) st) values off st
 
   write-serves : (index : ℕ) (table : Table) (kind : RefKind) (to : ℕ) (new : List Reference) (fits : Bool) (values : List Value) (below : Operands)
       → slice_get s.tables index ≡ Some table
-      → same_kind kind table.kind ≡ true → HaveKind (state_context s) table.kind new → (fits ≡ true → to + length new ≤ length table.entries)
-      → HaveTypes (state_context s) values below
+      → same_kind kind table.kind ≡ true → HaveKind (state_context s) table.kind new → (fits ≡ true → to + length new ≤ length table.entries) → Have s values below
       → EffectServes s below (bulk_step values (entries_effect index table kind to new fits))
   write-serves index table kind to new fits values below is same every le st =
       if-true (λ (e : BulkEffect). EffectServes s below (bulk_step values e)) (same_kind kind table.kind)
@@ -67,9 +63,9 @@ module _ (s : State) (typed : IsStateTyped (state_context s) s) where
   pub set-serves : (index : ℕ) (table : Table) → slice_get s.tables index ≡ Some table
       → Serves s (λ vs. table_set_step index (Some table) vs) (valtype.I32 ∷ type_of_kind table.kind ∷ []) []
   set-serves index table is values below off st =
-      take-ref (state_context s) (λ vs. HaveTypes (state_context s) (drop 2 vs) below → EffectServes s below (table_set_step index (Some table) vs)) table.kind
+      take-ref (state_context s) (λ vs. Have s (drop 2 vs) below → EffectServes s below (table_set_step index (Some table) vs)) table.kind
       (valtype.I32 ∷ [])
-      (λ reference vs fit off. take-i32 (state_context s) (λ vs. HaveTypes (state_context s) (drop 1 vs) below → EffectServes s below
+      (λ reference vs fit off. take-i32 (state_context s) (λ vs. Have s (drop 1 vs) below → EffectServes s below
       (table_set_step index (Some table) (Ref reference ∷ vs))) []
       (λ at vs lt off st. write-serves index table (kind_of reference) at (reference ∷ []) (nat_lt at (length table.entries)) vs below is
       (kind-fits (state_context s) reference table.kind fit) (every-one (state_context s) table.kind reference fit)
@@ -82,9 +78,9 @@ module _ (s : State) (typed : IsStateTyped (state_context s) s) where
       → Serves s (λ vs. table_grow_step index (Some table) vs) (type_of_kind table.kind ∷ valtype.I32 ∷ []) (valtype.I32 ∷ [])
   grow-serves index table is values below off st =
       let next : Operands = Some valtype.I32 ∷ below in
-      take-i32 (state_context s) (λ vs. HaveTypes (state_context s) (drop 2 vs) below → EffectServes s next (table_grow_step index (Some table) vs))
+      take-i32 (state_context s) (λ vs. Have s (drop 2 vs) below → EffectServes s next (table_grow_step index (Some table) vs))
       (type_of_kind table.kind ∷ [])
-      (λ by vs lt off. take-ref (state_context s) (λ vs. HaveTypes (state_context s) (drop 1 vs) below → EffectServes s next
+      (λ by vs lt off. take-ref (state_context s) (λ vs. Have s (drop 1 vs) below → EffectServes s next
       (table_grow_step index (Some table) (I32 by ∷ vs))) table.kind []
       (λ reference vs fit off st. if-true (λ (e : Effect). EffectServes s next e) (same_kind (kind_of reference) table.kind)
       (if may_extend (length table.entries) table.maximum by then Poses (AskTable index by reference) vs else Yields Nothing (minus_one ∷ vs)) HasNoRule
@@ -105,7 +101,7 @@ module _ (s : State) (typed : IsStateTyped (state_context s) s) where
       → same_kind element.kind table.kind ≡ true → element.kind ≡ table.kind
       → Serves s (λ vs. table_init_step index (Some table) (Some element) vs) (valtype.I32 ∷ valtype.I32 ∷ valtype.I32 ∷ []) []
   init-serves index table segment element is is_element same kinds values below off st =
-      take-three (state_context s) (λ vs. HaveTypes (state_context s) (drop 3 vs) below → EffectServes s below (table_init_step index (Some table) (Some element) vs))
+      take-three (state_context s) (λ vs. Have s (drop 3 vs) below → EffectServes s below (table_init_step index (Some table) (Some element) vs))
       (λ count from to vs st. write-serves index table element.kind to (take count (drop from element.items))
       (within to count (length table.entries) && within from count (length element.items)) vs below is same
       (every-part (state_context s) table.kind element.items from count
@@ -116,7 +112,7 @@ module _ (s : State) (typed : IsStateTyped (state_context s) s) where
       → same_kind source.kind table.kind ≡ true → source.kind ≡ table.kind
       → Serves s (λ vs. table_copy_step index (Some table) (Some source) vs) (valtype.I32 ∷ valtype.I32 ∷ valtype.I32 ∷ []) []
   copy-serves index table other source is is_source same kinds values below off st =
-      take-three (state_context s) (λ vs. HaveTypes (state_context s) (drop 3 vs) below → EffectServes s below (table_copy_step index (Some table) (Some source) vs))
+      take-three (state_context s) (λ vs. Have s (drop 3 vs) below → EffectServes s below (table_copy_step index (Some table) (Some source) vs))
       (λ count from to vs st. write-serves index table source.kind to (take count (drop from source.entries))
       (within to count (length table.entries) && within from count (length source.entries)) vs below is same
       (every-part (state_context s) table.kind source.entries from count
@@ -126,11 +122,11 @@ module _ (s : State) (typed : IsStateTyped (state_context s) s) where
   pub fill-serves : (index : ℕ) (table : Table) → slice_get s.tables index ≡ Some table
       → Serves s (λ vs. table_fill_step index (Some table) vs) (valtype.I32 ∷ type_of_kind table.kind ∷ valtype.I32 ∷ []) []
   fill-serves index table is values below off st =
-      take-i32 (state_context s) (λ vs. HaveTypes (state_context s) (drop 3 vs) below → EffectServes s below (table_fill_step index (Some table) vs))
+      take-i32 (state_context s) (λ vs. Have s (drop 3 vs) below → EffectServes s below (table_fill_step index (Some table) vs))
       (type_of_kind table.kind ∷ valtype.I32 ∷ [])
-      (λ count vs lt off. take-ref (state_context s) (λ vs. HaveTypes (state_context s) (drop 2 vs) below → EffectServes s below
+      (λ count vs lt off. take-ref (state_context s) (λ vs. Have s (drop 2 vs) below → EffectServes s below
       (table_fill_step index (Some table) (I32 count ∷ vs))) table.kind (valtype.I32 ∷ [])
-      (λ reference vs fit off. take-i32 (state_context s) (λ vs. HaveTypes (state_context s) (drop 1 vs) below → EffectServes s below
+      (λ reference vs fit off. take-i32 (state_context s) (λ vs. Have s (drop 1 vs) below → EffectServes s below
       (table_fill_step index (Some table) (I32 count ∷ Ref reference ∷ vs))) []
       (λ to vs lt off st. write-serves index table (kind_of reference) to (replicate count reference) (nat_le (to + count) (length table.entries)) vs below is
       (kind-fits (state_context s) reference table.kind fit) (every-same (state_context s) table.kind reference count fit)
