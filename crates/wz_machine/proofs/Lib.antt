@@ -22,3 +22,4 @@ pub mod StuckReplies
 pub mod StuckAccesses
 pub mod StuckSessions
 pub mod StuckStores
+pub mod ReferenceLemmas

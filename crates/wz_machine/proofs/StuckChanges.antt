@@ -21,7 +21,7 @@ use Rattle.wz_machine.proofs.TypedLemmas.{context_lasts}
 -- ---- items of altered lists
 
 -- what holds of each item that was there and of the altered one
-each-altered : {A : Type 0} (P : A → Type 0) (alter : A → A) (xs : List A) (i : ℕ) → ((k : ℕ) (x : A) → slice_get xs k ≡ Some x → P x)
+pub each-altered : {A : Type 0} (P : A → Type 0) (alter : A → A) (xs : List A) (i : ℕ) → ((k : ℕ) (x : A) → slice_get xs k ≡ Some x → P x)
     → ((x : A) → slice_get xs i ≡ Some x → P x → P (alter x)) → (k : ℕ) (y : A) → slice_get (altered alter xs i) k ≡ Some y → P y
 each-altered {A = A} P alter xs i each here k y h = by (get-altered alter xs i k y h)
   where

@@ -22,6 +22,7 @@ pub mod Replies
 pub mod Accesses
 pub mod Sessions
 pub mod Leaves
+pub mod References
 pub mod Within
 pub mod Laws
 pub mod Contexts

@@ -7,6 +7,9 @@ ghost use Rattle.wz_machine.specs.Flat.{LeavingTerm, LoopingTerm};
 ghost use Rattle.wz_machine.specs.Laws.{LeafReads, StepReads, MemoryGrowthReads, TableGrowthReads};
 ghost use Rattle.wz_machine.specs.Laws.{ChangeKeeps, ChangeReachesState, StepAddsNone, StepNames};
 ghost use Rattle.wz_machine.specs.Laws.{LeafSame, StepSame, ObservesSame, TypedNames, ContextLasts};
+ghost use Rattle.wz_machine.specs.References.{TakesOwn, is_own, StepAddsNoReference};
+ghost use Rattle.wz_machine.specs.References.{ChangeAddsNoReference, EntryAddsNoReference};
+ghost use Rattle.wz_machine.specs.References.{PutAddsNoReference};
 ghost use Rattle.wz_machine.specs.TypedLaws.{ChangeKeepsTyping, EntryIsTyped, StepKeepsTyping};
 ghost use Rattle.wz_machine.specs.TypedLaws.{ContentNeverSticks, MoveKeepsTyping, NeverStuck};
 ghost use Rattle.wz_machine.specs.TypedStores.{ValidFunctionsAreTyped};
@@ -32,6 +35,17 @@ pub fn steps_write()
 pub fn steps_add_no_code()
     ensures code { StepAddsNone }
     ensures segments { StepNames }
+{}
+
+/// Where null and the instance's own functions pass a test of references, a step puts none
+/// anywhere that fails it, if there was none before; nor does a change, a call or an answer. The
+/// test that references of the host fail is such a test.
+pub fn steps_add_no_references()
+    ensures steps { StepAddsNoReference }
+    ensures changes { ChangeAddsNoReference }
+    ensures entries { EntryAddsNoReference }
+    ensures answers { PutAddsNoReference }
+    ensures own { TakesOwn is_own }
 {}
 
 /// More segments than are named change no step, and nothing that is seen of an instance.
