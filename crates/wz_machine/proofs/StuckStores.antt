@@ -14,7 +14,7 @@ use Rattle.wz_store.specs.declared.function.Function.{Function}
 use Rattle.wz_store.specs.declared.function.Function.TheVariants.{Own, Import}
 use Rattle.wz_machine.specs.TypedState.{numbers_from, state_context, BodyTyped, FunctionTyped}
 use Rattle.wz_machine.specs.State.{State, body_from, ImportedBody, instance_of, FunctionInstance, state_of}
-use Rattle.wz_machine.specs.TypedStores.{IsContextOf, IsFunctionValid, ValidFunctionsAreTyped}
+use Rattle.wz_machine.specs.TypedStores.{IsValidationContext, IsFunctionValid, ValidFunctionsAreTyped}
 use Rattle.wz_machine.specs.TypedTerms.{scope_with}
 
 -- ---- the numbers of all functions
@@ -36,7 +36,7 @@ is-numbered count i lt =
 
 -- ---- the module's context serves
 
-serves-state : (context : TypingContext) (s : State) (locals results : List ValType) → IsContextOf context s
+serves-state : (context : TypingContext) (s : State) (locals results : List ValType) → IsValidationContext context s
     → Serves (scope_with context locals results) (scope_with (state_context s) locals results)
 serves-state context s locals results of = record {
   types = ap (λ (c : TypingContext). c.types) of.alike;
@@ -51,7 +51,7 @@ serves-state context s locals results of = record {
   declared = λ function h. is-numbered (length s.functions) function (of.declared function h);
 }
 
-body-typed : (context : TypingContext) (s : State) (type : FunctionType) (parts : BodyParts) → IsContextOf context s → IsBodyTyped context type parts
+body-typed : (context : TypingContext) (s : State) (type : FunctionType) (parts : BodyParts) → IsValidationContext context s → IsBodyTyped context type parts
     → BodyTyped (state_context s) type (body_from (Some parts))
 body-typed context s type parts of h =
     typing_serves (scope_with context (type.params ++ locals_of_runs parts.locals) type.results)
@@ -65,7 +65,7 @@ get-mapped f [] i y h = absurd (cc h)
 get-mapped f (x ∷ xs) zero y h = (x, refl, cc h)
 get-mapped f (x ∷ xs) (suc i) y h = get-mapped f xs i y h
 
-module _ (context : TypingContext) (bodies : List BodyParts) (s : State) (of : IsContextOf context s) where
+module _ (context : TypingContext) (bodies : List BodyParts) (s : State) (of : IsValidationContext context s) where
   body-found : (type : FunctionType) (o : Option BodyParts) → IsSomeAnd o (λ parts. IsBodyTyped context type parts) → BodyTyped (state_context s) type (body_from o)
   body-found type None h = absurd h
   body-found type (Some parts) h = body-typed context s type parts of h

@@ -12,7 +12,7 @@ use Rattle.wz_machine.specs.TypedState.{numbers_from, state_context, FunctionTyp
 
 -- The context is the state's own but for what only validation looks at: which globals are imported, and of which functions references may
 -- be made. All of those functions are there.
-pub record IsContextOf (context : TypingContext) (s : State) : Type 0 where
+pub record IsValidationContext (context : TypingContext) (s : State) : Type 0 where
   pub alike : record context { imported_globals = 0; declared = numbers_from 0 (length s.functions) } ≡ state_context s
   pub declared : (function : ℕ) → IsTrue (has_number function context.declared) → function < length s.functions
 
@@ -23,7 +23,7 @@ IsFunctionValid context bodies (Own signature body) =
 IsFunctionValid context bodies (Import signature import) = IsSomeAnd (slice_get context.types signature) (λ type. Unit {0})
 
 abbrev pub ValidFunctionsAreTyped : Type 0
-ValidFunctionsAreTyped = (context : TypingContext) (bodies : List BodyParts) (store : StateOf Function) → IsContextOf context (state_of bodies store)
+ValidFunctionsAreTyped = (context : TypingContext) (bodies : List BodyParts) (store : StateOf Function) → IsValidationContext context (state_of bodies store)
     → ((index : ℕ) (function : Function) → slice_get store.functions index ≡ Some function → IsFunctionValid context bodies function)
     → (index : ℕ) (function : FunctionInstance) → slice_get (state_of bodies store).functions index ≡ Some function
     → FunctionTyped (state_context (state_of bodies store)) function
