@@ -4,5 +4,6 @@ pub mod Constants
 pub mod Allocation
 pub mod Instances
 pub mod Instantiation
+pub mod Plain
 pub mod Run
 pub mod Ready

@@ -6,8 +6,11 @@
 //! run of all phases. `States` says how a store is a state of the module.
 #![tactic(auto)]
 
+mod allocation;
+mod constants;
 mod faults;
 mod order;
+mod segments;
 
 pub use faults::{InitFault, StartFault};
 pub use order::{Phase, RunOrder};
