@@ -1,5 +1,5 @@
 -- Segments that are run through one by one.
-use Rattle.std.proofs.Common.{◌≡◌, ℕ, ◌+◌, ◌<◌, ◌≤◌, ◌↔◌, List, [], ◌∷◌, Option, Some, None, Bool, true, false, IsTrue, length, map, drop, get_or, slice_get, refl, sym, ap, subst, ◌∙◌, arith}
+use Rattle.std.proofs.Common.{◌≡◌, ℕ, ◌+◌, ◌<◌, ◌↔◌, List, [], Bool, true, false, IsTrue, length, drop, get_or, slice_get, refl, sym, ap, subst, ◌∙◌}
 use Rattle.std.specs.Bool.{OnTrue, OnFalse}
 use Rattle.std.proofs.lemmas.Option.{slice_get_within}
 use Rattle.wz_types.specs.declared.types.RefKind.{RefKind}
@@ -10,14 +10,14 @@ use Rattle.wz_module.specs.declared.items.DataMode.{DataMode}
 use Rattle.wz_module.specs.declared.items.DataMode.TheVariants as data_mode
 use Rattle.wz_module.specs.declared.items.DataSegment.{DataSegment}
 use Rattle.wz_module.specs.Views.{init_of}
-use Rattle.wz_store.specs.State.{Table, Memory, Element, StateOf}
+use Rattle.wz_store.specs.State.{Table, Element, StateOf}
 use Rattle.wz_store.specs.Changes.{Change, Nothing, SetGlobal, WriteTable, WriteMemory, GrowTable, GrowMemory, EmptyElement, EmptyData, altered, with_entries, with_more_entries, with_bytes, with_more_pages, without_items, applied}
 use Rattle.wz_store.specs.Made.{StoreState}
 use Rattle.wz_store.proofs.ChangeLemmas.{length-altered, map-altered, altered_kept}
 use Rattle.wz_bulk.specs.Effects.{BulkEffect, Makes, Aborts, Misfits}
 use Rattle.wz_bulk.specs.TableEffects.{table_init_effect}
 use Rattle.wz_bulk.specs.MemoryEffects.{memory_init_effect}
-use Rattle.wz_init.specs.Instances.{InstanceOf, Instance, ElementUnfit, DataUnfit, NoInstance, instance_then}
+use Rattle.wz_init.specs.Instances.{InstanceOf, Instance, ElementUnfit, DataUnfit, instance_then}
 use Rattle.wz_init.specs.Instantiation.{copied}
 use Rattle.wz_init.specs.Plain.{table_kinds, element_kinds, plain_number, plain_element_run, plain_elements_run, plain_data_run, plain_datas_run, IsElemReady, IsDataReady}
 use Rattle.wz_init.proofs.BehindLemmas.{rest_at}

@@ -22,12 +22,12 @@ use Rattle.wz_module.specs.declared.items.DataMode.TheVariants as data_mode
 use Rattle.wz_module.specs.declared.items.DataSegment.{DataSegment}
 use Rattle.wz_module.specs.Views.{init_of}
 use Rattle.wz_store.specs.State.{Global, Table, Memory, Element, StateOf}
-use Rattle.wz_store.specs.Changes.{EmptyElement, EmptyData, applied}
+use Rattle.wz_store.specs.Changes.{EmptyElement, applied}
 use Rattle.wz_store.specs.Made.{StoredFunction, StoreState, new_global, new_element}
 use Rattle.wz_init.specs.declared.faults.StartFault.{StartFault}
 use Rattle.wz_init.specs.declared.faults.StartFault.TheVariants.{ElementOutOfBounds, DataOutOfBounds, NoMemory}
 use Rattle.wz_init.specs.Constants.{number_in, reference_in}
-use Rattle.wz_init.specs.Instances.{InstanceOf, Instance, ElementUnfit, DataUnfit, NoInstance, instance_then}
+use Rattle.wz_init.specs.Instances.{InstanceOf, Instance, ElementUnfit, DataUnfit, instance_then}
 use Rattle.wz_init.specs.Instantiation.{element_copied, data_copied}
 
 -- ---- expressions

@@ -9,8 +9,10 @@
 mod allocation;
 mod constants;
 mod faults;
+mod instantiation;
 mod order;
 mod segments;
 
 pub use faults::{InitFault, StartFault};
+pub use instantiation::instantiate;
 pub use order::{Phase, RunOrder};
