@@ -4,3 +4,4 @@ pub mod ConstantLemmas
 pub mod ModuleLemmas
 pub mod AllocationLemmas
 pub mod FreshLemmas
+pub mod FineLemmas

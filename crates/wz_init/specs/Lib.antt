@@ -7,3 +7,4 @@ pub mod Instantiation
 pub mod Plain
 pub mod Run
 pub mod Ready
+pub mod Reached
