@@ -40,19 +40,19 @@ use Rattle.wz_init.proofs.BehindLemmas.{as_many_own}
 
 -- ---- each constant instruction pushes one operand
 
-pushes : (type : ValType) (before next : Operands) → Leads (Exchange [] (type ∷ [])) before next → next ≡ Some type ∷ before
+pub pushes : (type : ValType) (before next : Operands) → Leads (Exchange [] (type ∷ [])) before next → next ≡ Some type ∷ before
 pushes type before next h = h.2 ∙ ap (λ (below : Operands). Some type ∷ below) (sym h.1)
 
-if_leads : (b : Bool) (rule : Rule) (before next : Operands) → Leads (rule_if b rule) before next → IsTrue b × Leads rule before next
+pub if_leads : (b : Bool) (rule : Rule) (before next : Operands) → Leads (rule_if b rule) before next → IsTrue b × Leads rule before next
 if_leads true rule before next h = (refl, h)
 if_leads false rule before next h = absurd h
 
-from_leads : (o : Option ValType) (before next : Operands) → Leads (rule_from o (λ type. Exchange [] (type ∷ []))) before next
+pub from_leads : (o : Option ValType) (before next : Operands) → Leads (rule_from o (λ type. Exchange [] (type ∷ []))) before next
     → (type : ValType) × (o ≡ Some type) × (next ≡ Some type ∷ before)
 from_leads None before next h = absurd h
 from_leads (Some type) before next h = (type, refl, pushes type before next h)
 
-one_more : (context : TypingContext) (instr : Instr) (before next : Operands) → Leads (constant_instr_rule context instr) before next
+pub one_more : (context : TypingContext) (instr : Instr) (before next : Operands) → Leads (constant_instr_rule context instr) before next
     → (type : ValType) × (next ≡ Some type ∷ before)
 one_more context (I32Const bits) before next h = (I32, pushes I32 before next (if_leads (nat_lt bits (2 ^ 32)) (Exchange [] (I32 ∷ [])) before next h).1)
 one_more context (I64Const bits) before next h = (I64, pushes I64 before next (if_leads (nat_lt bits (2 ^ 64)) (Exchange [] (I64 ∷ [])) before next h).1)
@@ -154,7 +154,7 @@ reference_value m function less =
     ap (λ (o : Option FunctionInstance). single_value (option_and_then (λ left. values_behind (auxiliary_state m) End left) (outcome_values (Does (ref_func_step function o [])))))
     found.1
 
-reads_no_global : (m : Module) (context : TypingContext) (index : ℕ) (type : ValType) → ReadsNone m context → constant_global context index ≡ Some type → ⊥
+pub reads_no_global : (m : Module) (context : TypingContext) (index : ℕ) (type : ValType) → ReadsNone m context → constant_global context index ≡ Some type → ⊥
 reads_no_global m context index type reads h =
     let none : constant_global context index ≡ None = below (nat_lt index context.imported_globals) refl in cc (sym h ∙ none)
   where
@@ -167,10 +167,10 @@ pub referred : (context : TypingContext) (function : ℕ) (before next : Operand
 referred context function before next h = (if_leads (may_refer context function) (Exchange [] (FuncRef ∷ [])) before next h).0
 
 -- the type that is left is the one that is asked for
-left_type : (found type : ValType) (next : Operands) → next ≡ Some found ∷ [] → Takes (type ∷ []) next [] → found ≡ type
+pub left_type : (found type : ValType) (next : Operands) → next ≡ Some found ∷ [] → Takes (type ∷ []) next [] → found ≡ type
 left_type found type next e takes = same_type-true found type (subst (λ (stack : Operands). Takes (type ∷ []) stack []) e takes).0
 
-along : (content : Value) (found type : ValType) (functions types : ℕ) → found ≡ type → Fits content found functions types → Fits content type functions types
+pub along : (content : Value) (found type : ValType) (functions types : ℕ) → found ≡ type → Fits content found functions types → Fits content type functions types
 along content found type functions types e h = subst (λ (t : ValType). Fits content t functions types) e h
 
 plain_block : (m : Module) (context : TypingContext) (body : BodyParts) (inner : ℕ → Code) (block : List Instr) (type : ValType) → ReadsNone m context

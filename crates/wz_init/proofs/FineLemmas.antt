@@ -58,7 +58,7 @@ use Rattle.wz_machine.specs.Step.{effect_reduct, outcome_reduct, code_reduct, in
 use Rattle.wz_machine.specs.Next.{Head, LeafHead, BlockHead, LoopHead, IfHead, head_of, head_in, next}
 use Rattle.wz_machine.proofs.LeafLemmas.{if-both}
 use Rattle.wz_init.specs.Run.{changes_table, leaf_changes_table, head_changes_table}
-use Rattle.wz_init.specs.Reached.{IsOwnReference, IsOwn, AreOwn, HoldsOwn}
+use Rattle.wz_init.specs.Reached.{IsOwnReference, IsOwn, AreOwn, AreOwnReferences, HoldsOwn}
 
 -- ---- what such a change is
 
@@ -149,7 +149,7 @@ own_zero valtype.F64 = tt
 own_zero valtype.FuncRef = tt
 own_zero valtype.ExternRef = tt
 
-own_zeros : (types : List ValType) → AreOwn (zeros_of types)
+pub own_zeros : (types : List ValType) → AreOwn (zeros_of types)
 own_zeros [] = tt
 own_zeros (type ∷ types) = (own_zero type, own_zeros types)
 
@@ -274,10 +274,15 @@ global_set_fine s index (Some global) e (value ∷ values) k = by (value_fits va
 
 -- ---- table instructions that change none
 
+own_reference_at : (rs : List Reference) (i : ℕ) (r : Reference) → slice_get rs i ≡ Some r → AreOwnReferences rs → IsOwnReference r
+own_reference_at [] i r e h = absurd (cc e)
+own_reference_at (x ∷ rs) zero r e h = subst (λ (v : Reference). IsOwnReference v) (cc e) h.0
+own_reference_at (x ∷ rs) (suc i) r e h = own_reference_at rs i r e h.1
+
 entry_fine : (s : State) (index at : ℕ) (table : Table) → slice_get s.tables index ≡ Some table → (o : Option Reference) → slice_get table.entries at ≡ o
     → (values : List Value) → HoldsOwn s → AreOwn values → EffectFine s (entry_effect (entry_or_trap o) values)
 entry_fine s index at table e None e' values h k = tt
-entry_fine s index at table e (Some reference) e' values h k = (tt, (h.tables index at table reference e e', k))
+entry_fine s index at table e (Some reference) e' values h k = (tt, (own_reference_at table.entries at reference e' (h.tables index table e), k))
 
 table_get_fine : (s : State) (index : ℕ) (o : Option Table) → slice_get s.tables index ≡ o → (values : List Value) → HoldsOwn s → AreOwn values
     → EffectFine s (table_get_step o values)

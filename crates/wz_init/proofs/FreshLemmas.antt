@@ -196,10 +196,10 @@ elements_are_ready m elements s e bodies short first was =
 
 -- ---- what all element segments leave alone
 
-same_state : {F : Type 0} (s now : StateOf F) → Instance s ≡ Instance now → s ≡ now
+pub same_state : {F : Type 0} (s now : StateOf F) → Instance s ≡ Instance now → s ≡ now
 same_state s now h = cc h
 
-then_keeps : {F A : Type 0} (view : StateOf F → A) (more : StateOf F → InstanceOf F) (s now : StateOf F) (made : InstanceOf F)
+pub then_keeps : {F A : Type 0} (view : StateOf F → A) (more : StateOf F → InstanceOf F) (s now : StateOf F) (made : InstanceOf F)
     → ((mid : StateOf F) → made ≡ Instance mid → view mid ≡ view s) → ((mid : StateOf F) → more mid ≡ Instance now → view now ≡ view mid)
     → instance_then more made ≡ Instance now → view now ≡ view s
 then_keeps view more s now (Instance mid) first second h = second mid h ∙ first mid refl

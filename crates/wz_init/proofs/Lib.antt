@@ -5,3 +5,5 @@ pub mod ModuleLemmas
 pub mod AllocationLemmas
 pub mod FreshLemmas
 pub mod FineLemmas
+pub mod LeftLemmas
+pub mod FirstLemmas
