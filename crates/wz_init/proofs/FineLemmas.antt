@@ -389,7 +389,7 @@ take_short zero xs = omega arith
 take_short (suc n) [] = omega arith
 take_short (suc n) (x ∷ xs) = omega (arith, take_short n xs)
 
-part_short : (bytes : List ℕ) (from count : ℕ) → length (part bytes from count) ≤ count
+pub part_short : (bytes : List ℕ) (from count : ℕ) → length (part bytes from count) ≤ count
 unfolding part
 part_short bytes from count = take_short count (drop from bytes)
 

@@ -52,7 +52,11 @@ use Rattle.wz_valid.specs.Items.{IsGlobalOk, IsElemOk}
 use Rattle.wz_init.proofs.ConstantLemmas.{ReadsNone, if_leads, pushes, from_leads, one_more, left_type, along, may_refer_there, reference_value, reads_no_global, as_many_functions}
 use Rattle.wz_init.proofs.ModuleLemmas.{reads_none, globals_read_none, own_memories}
 use Rattle.wz_init.proofs.FreshLemmas.{WasAllocated, was_allocated, then_keeps, same_state}
-use Rattle.wz_init.proofs.LeftLemmas.{segments_kept}
+use Rattle.wz_init.proofs.LeftLemmas.{segments_kept, same_pages}
+use Rattle.wz_init.proofs.FineLemmas.{part_short}
+use Rattle.wz_init.specs.Run.{pages_together}
+use Rattle.wz_linear.specs.Bytes.{part}
+use Rattle.wz_types.specs.declared.trap.TrapKind.TheVariants.{TableBounds}
 use Rattle.wz_init.specs.Reached.{IsOwn, IsOwnReference, AreOwnReferences, HoldsOwn, GlobalsFit, HasSegmentsOf, IsLeftOf, lasting_of}
 
 -- ---- the value of a constant expression fits, and is the instance's own
@@ -155,3 +159,223 @@ each_from {X = X} {Y = Y} f P Q one (x ∷ xs) h ys e i y here =
         at : (i : ℕ) → slice_get (z ∷ zs) i ≡ Some y → Q y
         at zero here = let same : z ≡ y = cc here in subst Q same (one x z (All-head P x xs h) a)
         at (suc i) here = rest zs b i y here
+
+-- a part of what is made of a list is a part of the list
+each_map : {X Y Z : Type 0} (f : X → Option Y) (h : Y → Z) (k : X → Z) → ((x : X) (y : Y) → f x ≡ Some y → h y ≡ k x) → (xs : List X) (ys : List Y)
+    → each_of f xs ≡ Some ys → map h ys ≡ map k xs
+each_map {Y = Y} {Z = Z} f h k one [] ys e = let same : [] ≡ ys = cc e in ap (λ (l : List Y). map h l) (sym same)
+each_map {X = X} {Y = Y} {Z = Z} f h k one (x ∷ xs) ys e = by (f x) refl (each_of f xs) refl e (λ zs e. each_map f h k one xs zs e)
+  where
+    by : (o : Option Y) → f x ≡ o → (os : Option (List Y)) → each_of f xs ≡ os → option_and_then (λ y. option_map (λ ys. y ∷ ys) os) o ≡ Some ys
+        → ((zs : List Y) → each_of f xs ≡ Some zs → map h zs ≡ map k xs) → map h ys ≡ k x ∷ map k xs
+    by None a os b e rest = absurd (cc e)
+    by (Some z) a None b e rest = absurd (cc e)
+    by (Some z) a (Some zs) b e rest =
+        let same : z ∷ zs ≡ ys = cc e in
+        ap (λ (l : List Y). map h l) (sym same) ∙ ap (λ (t : Z). t ∷ map h zs) (one x z a) ∙ ap (λ (ts : List Z). k x ∷ ts) (rest zs b)
+
+own_references_by : (rs : List Reference) → ((i : ℕ) (r : Reference) → slice_get rs i ≡ Some r → IsOwnReference r) → AreOwnReferences rs
+own_references_by [] h = tt
+own_references_by (r ∷ rs) h = (h 0 r refl, own_references_by rs (λ i x here. h (suc i) x here))
+
+own_references_append : (xs ys : List Reference) → AreOwnReferences xs → AreOwnReferences ys → AreOwnReferences (xs ++ ys)
+own_references_append [] ys h k = k
+own_references_append (x ∷ xs) ys h k = (h.0, own_references_append xs ys h.1 k)
+
+own_references_take : (n : ℕ) (xs : List Reference) → AreOwnReferences xs → AreOwnReferences (take n xs)
+own_references_take zero xs h = tt
+own_references_take (suc n) [] h = tt
+own_references_take (suc n) (x ∷ xs) h = (h.0, own_references_take n xs h.1)
+
+own_references_drop : (n : ℕ) (xs : List Reference) → AreOwnReferences xs → AreOwnReferences (drop n xs)
+own_references_drop zero xs h = h
+own_references_drop (suc n) [] h = tt
+own_references_drop (suc n) (x ∷ xs) h = own_references_drop n xs h.1
+
+own_nulls : (n : ℕ) (kind : RefKind) → AreOwnReferences (replicate n (Null kind))
+own_nulls zero kind = tt
+own_nulls (suc n) kind = (tt, own_nulls n kind)
+
+-- the reference that an own value is
+reference_own : (o : Option Value) (content : Value) (r : Reference) → o ≡ Some content → IsOwn content → reference_in o ≡ Some r → IsOwnReference r
+reference_own None content r e own h = absurd (cc h)
+reference_own (Some (I32 bits)) content r e own h = absurd (cc h)
+reference_own (Some (I64 bits)) content r e own h = absurd (cc h)
+reference_own (Some (F32 bits)) content r e own h = absurd (cc h)
+reference_own (Some (F64 bits)) content r e own h = absurd (cc h)
+reference_own (Some (Ref reference)) content r e own h =
+    let same : content ≡ Ref r = cc (e, h) in subst (λ (v : Value). IsOwn v) same own
+
+-- ---- the state that active segments are copied in
+
+pub record IsFirst (was s : State) : Type 0 where
+  pub lasting : lasting_parts s ≡ lasting_parts was
+  pub segments : HasSegmentsOf was s
+  pub fitting : GlobalsFit s
+  pub globals : (index : ℕ) (global : Global) → slice_get s.globals index ≡ Some global → IsOwn global.content
+  pub tables : (index : ℕ) (table : Table) → slice_get s.tables index ≡ Some table → AreOwnReferences table.entries
+  pub elements : (index : ℕ) (element : Element) → slice_get s.elements index ≡ Some element → AreOwnReferences element.items
+  pub pages : pages_together s.memories ≤ pages_limit
+
+IsFirstChange : State → Change → Type 0
+IsFirstChange s Nothing = ⊥
+IsFirstChange s (SetGlobal index value) = ⊥
+IsFirstChange s (WriteTable index at entries) = AreOwnReferences entries
+IsFirstChange s (WriteMemory index at bytes) = (memory : Memory) → slice_get s.memories index ≡ Some memory → at + length bytes ≤ length memory.bytes
+IsFirstChange s (GrowTable index by reference) = ⊥
+IsFirstChange s (GrowMemory index by) = ⊥
+IsFirstChange s (EmptyElement index) = Unit {0}
+IsFirstChange s (EmptyData index) = Unit {0}
+
+entries_own : (ts : List Table) (index at : ℕ) (entries : List Reference) → ((i : ℕ) (t : Table) → slice_get ts i ≡ Some t → AreOwnReferences t.entries)
+    → AreOwnReferences entries → (i : ℕ) (t : Table) → slice_get (altered (λ table. with_entries at entries table) ts index) i ≡ Some t → AreOwnReferences t.entries
+entries_own ts index at entries h k i t here = by (get-altered (λ table. with_entries at entries table) ts index i t here)
+  where
+    by : (x : Table) × (slice_get ts i ≡ Some x) × ((x ≡ t) ⊎ ((index ≡ i) × (with_entries at entries x ≡ t))) → AreOwnReferences t.entries
+    by (x, is, inl same) = subst (λ (y : Table). AreOwnReferences y.entries) same (h i x is)
+    by (x, is, inr same) =
+        subst (λ (y : Table). AreOwnReferences y.entries) same.1
+        (own_references_append (take at x.entries) (entries ++ drop (at + length entries) x.entries) (own_references_take at x.entries (h i x is))
+        (own_references_append entries (drop (at + length entries) x.entries) k (own_references_drop (at + length entries) x.entries (h i x is))))
+
+emptied_own : (es : List Element) (index : ℕ) → ((i : ℕ) (e : Element) → slice_get es i ≡ Some e → AreOwnReferences e.items) → (i : ℕ) (e : Element)
+    → slice_get (altered (λ element. without_items element) es index) i ≡ Some e → AreOwnReferences e.items
+emptied_own es index h i e here = by (get-altered (λ element. without_items element) es index i e here)
+  where
+    by : (x : Element) × (slice_get es i ≡ Some x) × ((x ≡ e) ⊎ ((index ≡ i) × (without_items x ≡ e))) → AreOwnReferences e.items
+    by (x, is, inl same) = subst (λ (y : Element). AreOwnReferences y.items) same (h i x is)
+    by (x, is, inr same) = subst (λ (y : Element). AreOwnReferences y.items) same.1 tt
+
+first_on : (was s : State) (change : Change) → IsFirst was s → IsFirstChange s change → IsFirst was (applied change s)
+unfolding IsFirstChange
+first_on was s Nothing h f = absurd f
+first_on was s (SetGlobal index value) h f = absurd f
+first_on was s (WriteTable index at entries) h f = record {
+  lasting = change_keeps (WriteTable index at entries) s ∙ h.lasting;
+  segments = segments_kept was s (WriteTable index at entries) h.segments;
+  fitting = h.fitting;
+  globals = h.globals;
+  tables = entries_own s.tables index at entries h.tables f;
+  elements = h.elements;
+  pages = h.pages;
+}
+first_on was s (WriteMemory index at bytes) h f = record {
+  lasting = change_keeps (WriteMemory index at bytes) s ∙ h.lasting;
+  segments = segments_kept was s (WriteMemory index at bytes) h.segments;
+  fitting = h.fitting;
+  globals = h.globals;
+  tables = h.tables;
+  elements = h.elements;
+  pages = subst (λ (n : ℕ). n ≤ pages_limit) (sym (same_pages s (WriteMemory index at bytes) f)) h.pages;
+}
+first_on was s (GrowTable index by reference) h f = absurd f
+first_on was s (GrowMemory index by) h f = absurd f
+first_on was s (EmptyElement index) h f = record {
+  lasting = change_keeps (EmptyElement index) s ∙ h.lasting;
+  segments = segments_kept was s (EmptyElement index) h.segments;
+  fitting = h.fitting;
+  globals = h.globals;
+  tables = h.tables;
+  elements = emptied_own s.elements index h.elements;
+  pages = h.pages;
+}
+first_on was s (EmptyData index) h f = record {
+  lasting = change_keeps (EmptyData index) s ∙ h.lasting;
+  segments = segments_kept was s (EmptyData index) h.segments;
+  fitting = h.fitting;
+  globals = h.globals;
+  tables = h.tables;
+  elements = h.elements;
+  pages = h.pages;
+}
+
+IsFirstEffect : State → BulkEffect → Type 0
+IsFirstEffect s (Makes change) = IsFirstChange s change
+IsFirstEffect s (Aborts kind) = Unit {0}
+IsFirstEffect s Misfits = Unit {0}
+
+table_first : (was s : State) (index table offset count : ℕ) (t : Option Table) (e : Option Element) → slice_get s.elements index ≡ e → IsFirst was s
+    → IsFirstEffect s (table_init_effect table t e offset 0 count)
+unfolding IsFirstEffect IsFirstChange
+table_first was s index table offset count None e is h = tt
+table_first was s index table offset count (Some t) None is h = tt
+table_first was s index table offset count (Some t) (Some element) is h =
+    by (same_kind element.kind t.kind) (within offset count (length t.entries) && within 0 count (length element.items))
+  where
+    by : (b c : Bool) → IsFirstEffect s (if b then (if c then Makes (WriteTable table offset (range_of element.items 0 count)) else Aborts TableBounds) else Misfits)
+    by true true = own_references_take count (drop 0 element.items) (own_references_drop 0 element.items (h.elements index element is))
+    by true false = tt
+    by false c = tt
+
+memory_first : (s : State) (memory offset count : ℕ) (o : Option Memory) (segment : Option (List ℕ)) → slice_get s.memories memory ≡ o
+    → IsFirstEffect s (memory_init_effect memory o segment offset 0 count)
+unfolding IsFirstEffect IsFirstChange
+memory_first s memory offset count None segment is = tt
+memory_first s memory offset count (Some found) None is = tt
+memory_first s memory offset count (Some found) (Some bytes) is =
+    by (within offset count (length found.bytes)) refl (within 0 count (length bytes))
+  where
+    by : (b : Bool) → within offset count (length found.bytes) ≡ b → (c : Bool) → IsFirstEffect s (bytes_effect memory offset (part bytes 0 count) (b && c))
+    by true fits true =
+        λ other here.
+        let same : found ≡ other = cc (is, here) in
+        omega (arith, ap (λ (m : Memory). length m.bytes) same, part_short bytes 0 count, leb-true (offset + count) (length found.bytes) fits)
+    by true fits false = tt
+    by false fits c = tt
+
+copied_first : (was s now : State) (unfit : Fresh) (drop : Change) (effect : BulkEffect) → ((t : State) → unfit ≡ Instance t → ⊥) → ((t : State) → IsFirstChange t drop)
+    → IsFirst was s → IsFirstEffect s effect → copied unfit drop s effect ≡ Instance now → IsFirst was now
+unfolding IsFirstEffect
+copied_first was s now unfit drop (Makes change) none fine h f e =
+    subst (λ (t : State). IsFirst was t) (same_state (applied drop (applied change s)) now e)
+    (first_on was (applied change s) drop (first_on was s change h f) (fine (applied change s)))
+copied_first was s now unfit drop (Aborts kind) none fine h f e = absurd (none now e)
+copied_first was s now unfit drop Misfits none fine h f e = absurd (cc e)
+
+element_first : (was : State) (m : Module) (index count : ℕ) (mode : ElemMode) (s now : State) → IsFirst was s → element_run m index count mode s ≡ Instance now → IsFirst was now
+unfolding IsFirstChange
+element_first was m index count PassiveElem s now h e = subst (λ (t : State). IsFirst was t) (same_state s now e) h
+element_first was m index count (ActiveElem table offset) s now h e = by (constant_number m offset) e
+  where
+    by : (o : Option ℕ) → element_copied index table count o s ≡ Instance now → IsFirst was now
+    by None e = absurd (cc e)
+    by (Some n) e =
+        copied_first was s now (ElementUnfit index) (EmptyElement index) (table_init_effect table (slice_get s.tables table) (slice_get s.elements index) n 0 count)
+        (λ t e. cc e) (λ t. tt) h (table_first was s index table n count (slice_get s.tables table) (slice_get s.elements index) refl h) e
+element_first was m index count DeclarativeElem s now h e =
+    subst (λ (t : State). IsFirst was t) (same_state (applied (EmptyElement index) s) now e) (first_on was s (EmptyElement index) h tt)
+
+then_first : (was now : State) (more : State → Fresh) (made : Fresh) → ((mid : State) → made ≡ Instance mid → IsFirst was mid)
+    → ((mid : State) → IsFirst was mid → more mid ≡ Instance now → IsFirst was now) → instance_then more made ≡ Instance now → IsFirst was now
+then_first was now more (Instance mid) one rest e = rest mid (one mid refl) e
+then_first was now more (ElementUnfit index) one rest e = absurd (cc e)
+then_first was now more (DataUnfit index) one rest e = absurd (cc e)
+then_first was now more NoInstance one rest e = absurd (cc e)
+
+elements_first : (was : State) (m : Module) (index : ℕ) (elements : List Elem) (s now : State) → IsFirst was s → elements_run m index elements s ≡ Instance now → IsFirst was now
+elements_first was m index [] s now h e = subst (λ (t : State). IsFirst was t) (same_state s now e) h
+elements_first was m index (x ∷ elements) s now h e =
+    then_first was now (λ next. elements_run m (index + 1) elements next) (element_run m index (length x.init) x.mode s)
+    (λ mid ran. element_first was m index (length x.init) x.mode s mid h ran) (λ mid k e. elements_first was m (index + 1) elements mid now k e) e
+
+data_first : (was : State) (m : Module) (index count : ℕ) (mode : DataMode) (s now : State) → IsFirst was s → data_run m index count mode s ≡ Instance now → IsFirst was now
+unfolding IsFirstChange
+data_first was m index count PassiveData s now h e = subst (λ (t : State). IsFirst was t) (same_state s now e) h
+data_first was m index count (ActiveData memory offset) s now h e = by (constant_number m offset) e
+  where
+    by : (o : Option ℕ) → data_copied index memory count o s ≡ Instance now → IsFirst was now
+    by None e = absurd (cc e)
+    by (Some n) e =
+        copied_first was s now (DataUnfit index) (EmptyData index) (memory_init_effect memory (slice_get s.memories memory) (slice_get s.datas index) n 0 count) (λ t e. cc e)
+        (λ t. tt) h (memory_first s memory n count (slice_get s.memories memory) (slice_get s.datas index) refl) e
+
+datas_first : (was : State) (m : Module) (index : ℕ) (segments : List DataSegment) (s now : State) → IsFirst was s → datas_run m index segments s ≡ Instance now → IsFirst was now
+datas_first was m index [] s now h e = subst (λ (t : State). IsFirst was t) (same_state s now e) h
+datas_first was m index (x ∷ segments) s now h e =
+    then_first was now (λ next. datas_run m (index + 1) segments next) (data_run m index (length x.bytes) x.mode s)
+    (λ mid ran. data_first was m index (length x.bytes) x.mode s mid h ran) (λ mid k e. datas_first was m (index + 1) segments mid now k e) e
+
+segments_first : (was : State) (m : Module) (s now : State) → IsFirst was s → segments_run m s ≡ Instance now → IsFirst was now
+segments_first was m s now h e =
+    then_first was now (λ next. datas_run m 0 m.datas next) (elements_run m 0 m.elements s) (λ mid ran. elements_first was m 0 m.elements s mid h ran)
+    (λ mid k e. datas_first was m 0 m.datas mid now k e) e

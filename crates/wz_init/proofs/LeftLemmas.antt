@@ -79,7 +79,7 @@ same_tables s (GrowMemory index by) f = absurd f
 same_tables s (EmptyElement index) f = refl
 same_tables s (EmptyData index) f = refl
 
-same_pages : (s : State) (change : Change) → IsFine s change → pages_together (applied change s).memories ≡ pages_together s.memories
+pub same_pages : (s : State) (change : Change) → IsFine s change → pages_together (applied change s).memories ≡ pages_together s.memories
 same_pages s Nothing f = refl
 same_pages s (SetGlobal index value) f = refl
 same_pages s (WriteTable index at entries) f = absurd f
