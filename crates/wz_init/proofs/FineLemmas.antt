@@ -1,6 +1,5 @@
 -- What a step of a run does to the state: it changes no table, no memory's size, and sets globals to fitting values of the instance's own.
-use Rattle.std.proofs.Common.{◌≡◌, ℕ, zero, suc, ◌+◌, ◌*◌, ◌/◌, ◌%◌, ◌<◌, ◌≤◌, nat_le, nat_lt, ◌==◌, List, [], ◌∷◌, ◌++◌, Option, Some, None, Result, Ok, Err, Bool, true, false, IsTrue, ◌&&◌, if◌then◌else◌, length, take, drop, reverse, replicate, slice_get, slice_set, refl, sym, ap, subst, ◌∙◌, arith, length-append}
-use Rattle.std.proofs.lemmas.Bool.{ltb-true}
+use Rattle.std.proofs.Common.{◌≡◌, ℕ, zero, suc, ◌+◌, ◌/◌, ◌%◌, ◌≤◌, nat_le, ◌==◌, List, [], ◌∷◌, ◌++◌, Option, Some, None, Result, Ok, Err, Bool, true, false, ◌&&◌, if◌then◌else◌, length, take, drop, reverse, replicate, slice_get, slice_set, refl, sym, ap, subst, arith}
 use Rattle.std.proofs.Common.{leb-true}
 use Rattle.std.proofs.Math.ListN.{length-replicate}
 use mathlib.Core.List.{reverse-cons}
@@ -18,7 +17,6 @@ use Rattle.wz_types.specs.FunctionType.{FunctionType}
 use Rattle.wz_types.specs.Fits.{Fits, value_fits}
 use Rattle.wz_types.specs.SameType.{same_function_type}
 use Rattle.wz_types.specs.Zeros.{zero_of, zeros_of}
-use Rattle.wz_types.proofs.SameTypeLemmas.{and-parts}
 use Rattle.wz_linear.specs.Bytes.{part, bytes_of}
 use Rattle.wz_code.specs.declared.numeric.NumOp.{NumOp}
 use Rattle.wz_code.specs.declared.numeric.NumOp.TheVariants as op
@@ -32,30 +30,29 @@ use Rattle.wz_num.specs.declared.answer.NumAnswer.{NumAnswer}
 use Rattle.wz_num.specs.declared.answer.NumAnswer.TheVariants as answer
 use Rattle.wz_num.specs.Integers.{idiv_s, idiv_u, irem_s, irem_u}
 use Rattle.wz_num.specs.Number.{Meaning, OneI32, OneI64, OneF32, OneF64, TwoI32, TwoI64, TwoF32, TwoF64, meant, meaning_of, i32_or_trap, i64_or_trap, number}
-use Rattle.wz_store.specs.State.{Global, Table, Memory, Element, StateOf, pages_of}
+use Rattle.wz_store.specs.State.{Global, Table, Memory, Element, pages_of}
 use Rattle.wz_store.specs.Changes.{Change, Nothing, SetGlobal, WriteTable, WriteMemory, GrowTable, GrowMemory, EmptyElement, EmptyData}
 use Rattle.wz_store.specs.Growth.{may_grow}
-use Rattle.wz_bulk.specs.declared.bulk.Bulk.{Bulk}
-use Rattle.wz_bulk.specs.Effects.{BulkEffect, Makes, Aborts, Misfits, within}
-use Rattle.wz_bulk.specs.TableEffects.{table_get_answer, table_size_answer, elem_drop_effect, entry_or_trap}
-use Rattle.wz_bulk.specs.MemoryEffects.{bytes_effect, memory_fill_effect, memory_copy_effect, memory_init_effect, data_drop_effect}
+use Rattle.wz_bulk.specs.Effects.{within}
+use Rattle.wz_bulk.specs.TableEffects.{entry_or_trap}
+use Rattle.wz_bulk.specs.MemoryEffects.{bytes_effect}
 use Rattle.wz_machine.specs.declared.questions.HostTarget.TheVariants as target
-use Rattle.wz_machine.specs.State.{FunctionBody, OwnBody, ImportedBody, NoBody, Callable, callable_of, callable_from, callable_at, FunctionInstance, State}
-use Rattle.wz_machine.specs.Terms.{Inside, Innermost, InLabel, InFrame, Term, Frame, BareValues, Question, AskHost}
+use Rattle.wz_machine.specs.State.{FunctionBody, OwnBody, ImportedBody, NoBody, Callable, callable_at, FunctionInstance, State}
+use Rattle.wz_machine.specs.Terms.{Inside, Innermost, InLabel, InFrame, Term, Frame, BareValues, AskHost}
 use Rattle.wz_machine.specs.Outcomes.{Effect, Yields, Poses, Fails, HasNoRule, Outcome, Does, SetsLocals, Jumps, Quits, Calls, Reduct, Goes, Finishes, Branches, Returns, Pauses, Traps, Sticks, Answer, Next, Done, Trap, Ask, Stuck}
 use Rattle.wz_machine.specs.NumericSteps.{result_effect, operation_step}
 use Rattle.wz_machine.specs.ReferenceSteps.{ref_is_null_step, ref_func_step}
 use Rattle.wz_machine.specs.ParametricSteps.{drop_step, select_step}
 use Rattle.wz_machine.specs.VariableSteps.{local_get_step, local_set_step, local_tee_step, global_get_step, global_set_step}
-use Rattle.wz_machine.specs.TableSteps.{entry_effect, table_get_step, size_effect, table_size_step, elem_drop_step}
+use Rattle.wz_machine.specs.TableSteps.{entry_effect, table_get_step, table_size_step, elem_drop_step}
 use Rattle.wz_machine.specs.BulkSteps.{bulk_step, minus_one}
-use Rattle.wz_machine.specs.MemorySteps.{value_of_bits, bits_of_value, value_effect, read_value, load_step, write_effect, store_step, access_step, memory_size_step, memory_growth, memory_grow_step, memory_fill_step, memory_copy_step, memory_init_step, data_drop_step}
+use Rattle.wz_machine.specs.MemorySteps.{value_of_bits, bits_of_value, value_effect, read_value, load_step, write_effect, store_step, access_step, memory_size_step, memory_grow_step, memory_fill_step, memory_copy_step, memory_init_step, data_drop_step}
 use Rattle.wz_machine.specs.ControlSteps.{br_if_step, listed_jump, br_table_step}
-use Rattle.wz_machine.specs.CallSteps.{starting_locals, invocation, with_arguments, call_step, expected_call, host_call, foreign_call, sort_call, entry_call, call_indirect_step}
+use Rattle.wz_machine.specs.CallSteps.{invocation, with_arguments, call_step, expected_call, host_call, foreign_call, sort_call, entry_call, call_indirect_step}
 use Rattle.wz_machine.specs.InstrSteps.{instr_step, leaf_step}
 use Rattle.wz_machine.specs.BlockSteps.{block_type, label_types, block_entry, if_entry, arrival, label_reduct, frame_left, frame_reduct}
-use Rattle.wz_machine.specs.Step.{effect_reduct, outcome_reduct, code_reduct, inside_reduct, results_answer, frame_answer, step}
-use Rattle.wz_machine.specs.Next.{Head, LeafHead, BlockHead, LoopHead, IfHead, head_of, head_in, next}
+use Rattle.wz_machine.specs.Step.{outcome_reduct, code_reduct, inside_reduct, results_answer, frame_answer, step}
+use Rattle.wz_machine.specs.Next.{head_of, head_in, next}
 use Rattle.wz_machine.proofs.LeafLemmas.{if-both}
 use Rattle.wz_init.specs.Run.{changes_table, leaf_changes_table, head_changes_table}
 use Rattle.wz_init.specs.Reached.{IsOwnReference, IsOwn, AreOwn, AreOwnReferences, HoldsOwn}

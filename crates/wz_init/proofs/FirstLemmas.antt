@@ -1,17 +1,16 @@
 -- What a module's fresh instance holds: the module's parts, fitting values, and no reference to something of the host.
-use Rattle.std.proofs.Common.{◌≡◌, ℕ, zero, suc, ◌+◌, ◌*◌, ◌/◌, ◌<◌, ◌≤◌, ◌⊎◌, inl, inr, List, [], ◌∷◌, ◌++◌, Option, Some, None, Bool, true, false, IsTrue, ◌&&◌, if◌then◌else◌, length, map, take, drop, replicate, slice_get, option_map, option_and_then, refl, sym, ap, subst, ◌∙◌, arith, length-append}
+use Rattle.std.proofs.Common.{◌≡◌, ℕ, zero, suc, ◌+◌, ◌*◌, ◌≤◌, ◌⊎◌, inl, inr, List, [], ◌∷◌, ◌++◌, Option, Some, None, Bool, true, false, ◌&&◌, if◌then◌else◌, length, map, take, drop, replicate, slice_get, option_map, option_and_then, refl, sym, ap, subst, ◌∙◌, arith}
 use Rattle.std.proofs.Common.{leb-true, lt-ltb, nat_lt, ◌^◌}
-use Rattle.std.specs.List.{All}
+use Rattle.std.specs.List.{All, sum_by}
 use Rattle.std.proofs.Math.ListN.{length-replicate, length-map}
 use Rattle.std.proofs.lemmas.List.Elements.{All-head, All-tail}
 use Rattle.std.proofs.lemmas.List.Sums.{sum_by-cons}
-use Rattle.std.proofs.lemmas.Option.{slice_get-map}
 use Rattle.wz_types.specs.declared.types.RefKind.{RefKind}
 use Rattle.wz_types.specs.declared.types.GlobalType.{GlobalType}
 use Rattle.wz_types.specs.declared.types.TableType.{TableType}
 use Rattle.wz_types.specs.declared.types.MemType.{MemType}
 use Rattle.wz_types.specs.declared.value.Reference.{Reference}
-use Rattle.wz_types.specs.declared.value.Reference.TheVariants.{Null, Fn, Foreign}
+use Rattle.wz_types.specs.declared.value.Reference.TheVariants.{Null, Fn}
 use Rattle.wz_types.specs.declared.value.Value.{Value}
 use Rattle.wz_types.specs.declared.value.Value.TheVariants.{I32, I64, F32, F64, Ref}
 use Rattle.wz_types.specs.SameType.{same_kind}
@@ -20,19 +19,19 @@ use Rattle.wz_module.specs.Elements.{ElemMode, PassiveElem, ActiveElem, Declarat
 use Rattle.wz_module.specs.Datas.{DataMode, PassiveData, ActiveData, DataSegment}
 use Rattle.wz_module.specs.Module.{Module}
 use Rattle.wz_valid.specs.Profile.{pages_limit, IsInProfile}
-use Rattle.wz_store.specs.State.{Global, Table, Memory, Element, StateOf, pages_of, page_size}
-use Rattle.wz_store.specs.Changes.{Change, Nothing, SetGlobal, WriteTable, WriteMemory, GrowTable, GrowMemory, EmptyElement, EmptyData, altered, overwritten, range_of, with_entries, without_items, applied}
+use Rattle.wz_store.specs.State.{Global, Table, Memory, Element, pages_of, page_size}
+use Rattle.wz_store.specs.Changes.{Change, Nothing, SetGlobal, WriteTable, WriteMemory, GrowTable, GrowMemory, EmptyElement, EmptyData, altered, range_of, with_entries, without_items, applied}
 use Rattle.wz_store.specs.Made.{new_global, new_table, new_memory, new_element}
 use Rattle.wz_store.proofs.ChangeLemmas.{get-altered}
 use Rattle.wz_bulk.specs.Effects.{BulkEffect, Makes, Aborts, Misfits, within}
-use Rattle.wz_bulk.specs.TableEffects.{entries_effect, table_init_effect}
+use Rattle.wz_bulk.specs.TableEffects.{table_init_effect}
 use Rattle.wz_bulk.specs.MemoryEffects.{bytes_effect, memory_init_effect}
 use Rattle.wz_machine.specs.State.{State, LastingParts, lasting_parts}
 use Rattle.wz_machine.proofs.ChangeLemmas.{change_keeps}
 use Rattle.wz_init.specs.Functions.{functions_in}
 use Rattle.wz_init.specs.Constants.{constant_value, constant_reference, constant_number, reference_in}
 use Rattle.wz_init.specs.Allocation.{each_of, first_global, first_globals, first_element, first_elements, allocated_of, allocated}
-use Rattle.wz_init.specs.Instances.{InstanceOf, Instance, ElementUnfit, DataUnfit, NoInstance, Fresh, instance_then}
+use Rattle.wz_init.specs.Instances.{Instance, ElementUnfit, DataUnfit, NoInstance, Fresh, instance_then}
 use Rattle.wz_init.specs.Instantiation.{copied, element_copied, element_run, elements_run, data_copied, data_run, datas_run, segments_run, from_allocated, instantiated, fresh}
 use Rattle.wz_types.specs.declared.types.ValType.{ValType}
 use Rattle.wz_types.specs.declared.types.ValType.TheVariants as valtype
@@ -44,20 +43,22 @@ use Rattle.wz_code.specs.Trees.{Code, End, Then, InBlock, InLoop, InIf, Leaf, Pl
 use Rattle.wz_valid_code.specs.Operands.{Operands}
 use Rattle.wz_valid_code.specs.Rules.{Exchange, Leads}
 use Rattle.wz_valid_code.specs.Context.{TypingContext, may_refer, constant_global}
-use Rattle.wz_valid_code.specs.ConstantInstructions.{constant_instr_rule, constant_rule}
+use Rattle.wz_valid_code.specs.ConstantInstructions.{constant_rule}
 use Rattle.wz_valid_code.specs.Typing.{IsConstant, LeadsToConstant}
 use Rattle.wz_valid.specs.Indices.{all_functions}
 use Rattle.wz_valid.specs.Contexts.{context_of, globals_context_of}
 use Rattle.wz_valid.specs.Items.{IsGlobalOk, IsElemOk}
 use Rattle.wz_init.proofs.ConstantLemmas.{ReadsNone, if_leads, pushes, from_leads, one_more, left_type, along, may_refer_there, reference_value, reads_no_global, as_many_functions}
 use Rattle.wz_init.proofs.ModuleLemmas.{reads_none, globals_read_none, own_memories}
-use Rattle.wz_init.proofs.FreshLemmas.{WasAllocated, was_allocated, then_keeps, same_state}
-use Rattle.wz_init.proofs.LeftLemmas.{segments_kept, same_pages}
+use Rattle.wz_init.proofs.FreshLemmas.{WasAllocated, was_allocated, same_state}
+use Rattle.wz_init.proofs.LeftLemmas.{segments_kept, same_pages, phases_left}
 use Rattle.wz_init.proofs.FineLemmas.{part_short}
 use Rattle.wz_init.specs.Run.{pages_together}
 use Rattle.wz_linear.specs.Bytes.{part}
 use Rattle.wz_types.specs.declared.trap.TrapKind.TheVariants.{TableBounds}
-use Rattle.wz_init.specs.Reached.{IsOwn, IsOwnReference, AreOwnReferences, HoldsOwn, GlobalsFit, HasSegmentsOf, IsLeftOf, lasting_of}
+use Rattle.wz_init.specs.Reached.{IsOwn, IsOwnReference, AreOwnReferences, GlobalsFit, HasSegmentsOf, IsLeftOf, IsReachedOf, lasting_of}
+use Rattle.wz_init.specs.declared.order.RunOrder.{RunOrder}
+use Rattle.wz_init.specs.Ready.{Reached, phases, ready_from, ready}
 
 -- ---- the value of a constant expression fits, and is the instance's own
 
@@ -379,3 +380,201 @@ segments_first : (was : State) (m : Module) (s now : State) → IsFirst was s �
 segments_first was m s now h e =
     then_first was now (λ next. datas_run m 0 m.datas next) (elements_run m 0 m.elements s) (λ mid ran. elements_first was m 0 m.elements s mid h ran)
     (λ mid k e. datas_first was m 0 m.datas mid now k e) e
+
+-- ---- of a valid module
+
+one_global : (m : Module) (def : GlobalDef) (g : Global) → IsInProfile m → IsGlobalOk m def → first_global m def ≡ Some g
+    → Fits g.content g.type.value (length (functions_in m)) (length m.types) × IsOwn g.content
+one_global m def g profile fine e =
+    let has = own_value m (globals_context_of m) def.init def.kind.value (globals_read_none m profile) fine in
+    let read : Some (new_global def.kind has.content) ≡ Some g =
+    ap (λ (o : Option Value). option_map (λ content. new_global def.kind content) o) (sym has.evaluated) ∙ e in
+    let same : new_global def.kind has.content ≡ g = cc read in
+    subst (λ (x : Global). Fits x.content x.type.value (length (functions_in m)) (length m.types) × IsOwn x.content) same
+    (subst (λ (n : ℕ). Fits has.content def.kind.value n (length m.types)) (sym (as_many_functions m)) has.fitting, has.own)
+
+one_element : (m : Module) (x : Elem) (e : Element) → IsInProfile m → IsElemOk m x → first_element m x ≡ Some e → AreOwnReferences e.items
+one_element m x e profile fine h = by (each_of (λ init. constant_reference m init) x.init) refl h
+  where
+    by : (o : Option (List Reference)) → each_of (λ init. constant_reference m init) x.init ≡ o → option_map (λ items. new_element x.kind items) o ≡ Some e
+        → AreOwnReferences e.items
+    by None a h = absurd (cc h)
+    by (Some rs) a h =
+        let same : new_element x.kind rs ≡ e = cc h in
+        subst (λ (y : Element). AreOwnReferences y.items) same
+        (own_references_by rs
+        (λ i r here.
+        each_from (λ init. constant_reference m init) (λ init. IsConstant (context_of m) init (type_of_kind x.kind)) (λ r. IsOwnReference r)
+        (λ init r constant is.
+        let has = own_value m (context_of m) init (type_of_kind x.kind) (reads_none m profile) constant in
+        reference_own (constant_value m init) has.content r has.evaluated has.own is) x.init fine.0 rs a i r here))
+
+new_tables_own : (tables : List TableType) (i : ℕ) (t : Table) → slice_get (map new_table tables) i ≡ Some t → AreOwnReferences t.entries
+new_tables_own [] i t here = absurd (cc here)
+new_tables_own (type ∷ tables) zero t here =
+    let same : new_table type ≡ t = cc here in subst (λ (x : Table). AreOwnReferences x.entries) same (own_nulls type.limits.min type.kind)
+new_tables_own (type ∷ tables) (suc i) t here = new_tables_own tables i t here
+
+new_pages : (memories : List MemType) → pages_together (map new_memory memories) ≡ sum_by (λ memory. memory.limits.min) memories
+new_pages [] = refl
+new_pages (type ∷ memories) =
+    sum_by-cons pages_of (new_memory type) (map new_memory memories)
+    ∙ omega (
+      arith,
+      new_pages memories,
+      length-replicate {A = ℕ} (type.limits.min * page_size) 0,
+      sum_by-cons (λ (memory : MemType). memory.limits.min) type memories,
+    )
+
+few_pages : (m : Module) → IsInProfile m → pages_together (map new_memory m.memories) ≤ pages_limit
+few_pages m profile =
+    subst (λ (n : ℕ). n ≤ pages_limit) (sym (new_pages m.memories))
+    (subst (λ (ms : List MemType). sum_by (λ memory. memory.limits.min) ms ≤ pages_limit) (own_memories m profile) profile.memories)
+
+was_first : (m : Module) (s : State) → IsInProfile m → All (λ g. IsGlobalOk m g) m.globals → All (λ e. IsElemOk m e) m.elements → WasAllocated m (functions_in m) s
+    → IsFirst s s
+was_first m s profile globals elements was =
+    let all = each_from (λ g. first_global m g) (λ g. IsGlobalOk m g) (λ g. Fits g.content g.type.value (length (functions_in m)) (length m.types) × IsOwn g.content)
+    (λ def g fine e. one_global m def g profile fine e) m.globals globals was.globals was.first in
+    let items = each_from (λ e. first_element m e) (λ e. IsElemOk m e) (λ e. AreOwnReferences e.items) (λ x e fine h. one_element m x e profile fine h) m.elements elements
+    was.elements was.second in
+    let made = allocated_of m (functions_in m) was.globals was.elements in
+    let first : IsFirst made made = record {
+      lasting = refl;
+      segments = record { elements = λ i e here. inl here; datas = λ i b here. inl here };
+      fitting = λ i g here. (all i g here).0;
+      globals = λ i g here. (all i g here).1;
+      tables = new_tables_own m.tables;
+      elements = items;
+      pages = few_pages m profile;
+    } in
+    subst (λ (t : State). IsFirst t t) (sym was.is) first
+
+-- ---- the module's parts
+
+table_kinds_of_new : (tables : List TableType) → map (λ (table : Table). table.kind) (map new_table tables) ≡ map (λ (t : TableType). t.kind) tables
+table_kinds_of_new [] = refl
+table_kinds_of_new (t ∷ tables) = ap (λ ks. t.kind ∷ ks) (table_kinds_of_new tables)
+
+table_maxima_of_new : (tables : List TableType) → map (λ (table : Table). table.maximum) (map new_table tables) ≡ map (λ (t : TableType). t.limits.max) tables
+table_maxima_of_new [] = refl
+table_maxima_of_new (t ∷ tables) = ap (λ ks. t.limits.max ∷ ks) (table_maxima_of_new tables)
+
+memory_maxima_of_new : (memories : List MemType) → map (λ (memory : Memory). memory.maximum) (map new_memory memories) ≡ map (λ (t : MemType). t.limits.max) memories
+memory_maxima_of_new [] = refl
+memory_maxima_of_new (t ∷ memories) = ap (λ ks. t.limits.max ∷ ks) (memory_maxima_of_new memories)
+
+global_types : (m : Module) (gs : List Global) → first_globals m ≡ Some gs → map (λ (g : Global). g.type) gs ≡ map (λ (g : GlobalDef). g.kind) m.globals
+global_types m gs e = each_map (λ g. first_global m g) (λ (g : Global). g.type) (λ (g : GlobalDef). g.kind) (λ def g is. by def g (constant_value m def.init) is) m.globals gs e
+  where
+    by : (def : GlobalDef) (g : Global) (o : Option Value) → option_map (λ content. new_global def.kind content) o ≡ Some g → g.type ≡ def.kind
+    by def g None is = absurd (cc is)
+    by def g (Some content) is =
+        let same : new_global def.kind content ≡ g = cc is in ap (λ (x : Global). x.type) (sym same)
+
+element_kinds_of : (m : Module) (es : List Element) → first_elements m ≡ Some es → map (λ (e : Element). e.kind) es ≡ map (λ (e : Elem). e.kind) m.elements
+element_kinds_of m es h =
+    each_map (λ e. first_element m e) (λ (e : Element). e.kind) (λ (e : Elem). e.kind) (λ x e is. by x e (each_of (λ init. constant_reference m init) x.init) is) m.elements es h
+  where
+    by : (x : Elem) (e : Element) (o : Option (List Reference)) → option_map (λ items. new_element x.kind items) o ≡ Some e → e.kind ≡ x.kind
+    by x e None is = absurd (cc is)
+    by x e (Some items) is =
+        let same : new_element x.kind items ≡ e = cc is in ap (λ (y : Element). y.kind) (sym same)
+
+parts_made : List GlobalType → List RefKind → List (Option ℕ) → List (Option ℕ) → List RefKind → ℕ → Module → LastingParts
+parts_made globals kinds maxima memories elements datas m = record {
+  types = m.types;
+  functions = functions_in m;
+  globals = globals;
+  table_kinds = kinds;
+  table_maxima = maxima;
+  memory_maxima = memories;
+  element_kinds = elements;
+  datas = datas;
+}
+
+was_lasting : (m : Module) (s : State) → WasAllocated m (functions_in m) s → lasting_parts s ≡ lasting_of m
+unfolding parts_made
+was_lasting m s was =
+    let kinds = map (λ (table : Table). table.kind) (map new_table m.tables) in
+    let maxima = map (λ (table : Table). table.maximum) (map new_table m.tables) in
+    let memories = map (λ (memory : Memory). memory.maximum) (map new_memory m.memories) in
+    let elements = map (λ (e : Element). e.kind) was.elements in
+    let datas = length (map (λ (d : DataSegment). d.bytes) m.datas) in
+    ap (λ (t : State). lasting_parts t) was.is
+    ∙ ap (λ (x : List GlobalType). parts_made x kinds maxima memories elements datas m) (global_types m was.globals was.first)
+    ∙ ap (λ (x : List RefKind). parts_made (map (λ (g : GlobalDef). g.kind) m.globals) x maxima memories elements datas m) (table_kinds_of_new m.tables)
+    ∙ ap (λ (x : List (Option ℕ)).
+    parts_made (map (λ (g : GlobalDef). g.kind) m.globals) (map (λ (t : TableType). t.kind) m.tables) x memories elements datas m) (table_maxima_of_new m.tables)
+    ∙ ap (λ (x : List (Option ℕ)).
+    parts_made (map (λ (g : GlobalDef). g.kind) m.globals) (map (λ (t : TableType). t.kind) m.tables) (map (λ (t : TableType). t.limits.max) m.tables) x elements datas m)
+    (memory_maxima_of_new m.memories)
+    ∙ ap (λ (x : List RefKind).
+    parts_made (map (λ (g : GlobalDef). g.kind) m.globals) (map (λ (t : TableType). t.kind) m.tables) (map (λ (t : TableType). t.limits.max) m.tables)
+    (map (λ (t : MemType). t.limits.max) m.memories) x datas m) (element_kinds_of m was.elements was.second)
+    ∙ ap (λ (x : ℕ).
+    parts_made (map (λ (g : GlobalDef). g.kind) m.globals) (map (λ (t : TableType). t.kind) m.tables) (map (λ (t : TableType). t.limits.max) m.tables)
+    (map (λ (t : MemType). t.limits.max) m.memories) (map (λ (e : Elem). e.kind) m.elements) x m) (length-map m.datas (λ (d : DataSegment). d.bytes))
+
+-- ---- fresh instances, and reached ones
+
+-- a fresh instance is left of itself
+first_again : (m : Module) (first : State) (was : IsReachedOf m first) → fresh m ≡ Instance first → IsLeftOf was.written first first
+first_again m first was is = record {
+  lasting = refl;
+  tables = refl;
+  segments = was.left.segments;
+  pages = was.left.pages;
+  fitting = was.left.fitting;
+  own = was.left.own;
+}
+
+some_state : (m : Module) (s : State) → fresh m ≡ Instance s → (was : State) × (allocated m (functions_in m) ≡ Some was) × (segments_run m was ≡ Instance s)
+unfolding fresh instantiated
+some_state m s e = by (allocated m (functions_in m)) e
+  where
+    by : (o : Option State) → from_allocated m o ≡ Instance s → (was : State) × (o ≡ Some was) × (segments_run m was ≡ Instance s)
+    by None e = absurd (cc e)
+    by (Some was) e = (was, refl, e)
+
+pub fresh_left : (m : Module) (s : State) → IsInProfile m → All (λ g. IsGlobalOk m g) m.globals → All (λ e. IsElemOk m e) m.elements → fresh m ≡ Instance s → IsReachedOf m s
+fresh_left m s profile globals elements e =
+    let made = some_state m s e in
+    let was = was_allocated m (functions_in m) made.0 made.1 in
+    let first = segments_first made.0 m made.0 s (was_first m made.0 profile globals elements was) made.2 in
+    record {
+      written = made.0;
+      first = s;
+      allocation = made.1;
+      made = e;
+      module_parts = first.lasting ∙ was_lasting m made.0 was;
+      left = record {
+        lasting = refl;
+        tables = refl;
+        segments = first.segments;
+        pages = first.pages;
+        fitting = first.fitting;
+        own = record { globals = first.globals; tables = first.tables };
+      };
+    }
+
+pub ready_left : (m : Module) (order : RunOrder) (s : State) (ticks : ℕ) → IsInProfile m → All (λ g. IsGlobalOk m g) m.globals → All (λ e. IsElemOk m e) m.elements
+    → ready m order ≡ Reached s ticks → IsReachedOf m s
+unfolding ready
+ready_left m order s ticks profile globals elements e = by (fresh m) refl e
+  where
+    by : (f : Fresh) → fresh m ≡ f → ready_from m order f ≡ Reached s ticks → IsReachedOf m s
+    by (Instance first) is e =
+        let was = fresh_left m first profile globals elements is in
+        let left = phases_left was.written first (phases m order) first order.fuel 0 s ticks (first_again m first was is) e in
+        record {
+          written = was.written;
+          first = first;
+          allocation = was.allocation;
+          made = is;
+          module_parts = left.lasting ∙ was.module_parts;
+          left = left;
+        }
+    by (ElementUnfit index) is e = absurd (cc e)
+    by (DataUnfit index) is e = absurd (cc e)
+    by NoInstance is e = absurd (cc e)

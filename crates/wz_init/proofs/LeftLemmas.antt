@@ -1,15 +1,14 @@
 -- What a run keeps of the state that it began with.
-use Rattle.std.proofs.Common.{◌≡◌, ℕ, zero, suc, ◌+◌, ◌*◌, ◌/◌, ◌<◌, ◌≤◌, ◌⊎◌, inl, inr, nat_le, nat_lt, List, [], ◌∷◌, ◌++◌, Option, Some, None, Bool, true, false, IsTrue, if◌then◌else◌, length, map, take, drop, replicate, slice_get, refl, sym, ap, subst, ◌∙◌, arith, length-append, length-drop}
+use Rattle.std.proofs.Common.{◌≡◌, ℕ, zero, suc, ◌+◌, ◌*◌, ◌/◌, ◌≤◌, ◌⊎◌, inl, inr, List, [], ◌∷◌, ◌++◌, Option, Some, None, Bool, true, false, if◌then◌else◌, length, take, drop, replicate, slice_get, refl, sym, ap, subst, ◌∙◌, arith, length-append, length-drop}
 use Rattle.std.proofs.Common.{leb-true}
 use Rattle.std.proofs.lemmas.List.Sums.{sum_by-cons}
 use Rattle.std.proofs.Math.ListN.{length-replicate}
 use Rattle.wz_types.specs.declared.value.Value.{Value}
 use Rattle.wz_types.specs.declared.value.Value.TheVariants.{I32}
 use Rattle.wz_types.specs.Fits.{Fits}
-use Rattle.wz_types.specs.FunctionType.{FunctionType}
 use Rattle.wz_linear.specs.Bytes.{written}
 use Rattle.wz_valid.specs.Profile.{pages_limit}
-use Rattle.wz_store.specs.State.{Global, Table, Memory, Element, StateOf, pages_of, page_size}
+use Rattle.wz_store.specs.State.{Global, Table, Memory, Element, pages_of, page_size}
 use Rattle.wz_store.specs.Changes.{Change, Nothing, SetGlobal, WriteTable, WriteMemory, GrowTable, GrowMemory, EmptyElement, EmptyData, altered, with_content, with_bytes, with_more_pages, without_items, applied}
 use Rattle.wz_store.proofs.ChangeLemmas.{get-altered}
 use Rattle.wz_machine.specs.declared.questions.HostTarget.TheVariants as target

@@ -7,3 +7,4 @@ pub mod FreshLemmas
 pub mod FineLemmas
 pub mod LeftLemmas
 pub mod FirstLemmas
+pub mod LawLemmas

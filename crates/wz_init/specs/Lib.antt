@@ -8,3 +8,4 @@ pub mod Plain
 pub mod Run
 pub mod Ready
 pub mod Reached
+pub mod Laws

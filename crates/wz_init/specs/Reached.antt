@@ -7,7 +7,7 @@ use Rattle.wz_types.specs.declared.value.Value.{Value}
 use Rattle.wz_types.specs.declared.value.Value.TheVariants.{I32, I64, F32, F64, Ref}
 use Rattle.wz_types.specs.Fits.{Fits}
 use Rattle.wz_valid.specs.Profile.{pages_limit}
-use Rattle.wz_store.specs.State.{Global, Table, Memory, Element}
+use Rattle.wz_store.specs.State.{Global, Table, Element}
 use Rattle.wz_machine.specs.State.{State, LastingParts, lasting_parts}
 use Rattle.wz_module.specs.Module.{Module}
 use Rattle.wz_init.specs.Functions.{functions_in}

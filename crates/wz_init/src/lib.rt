@@ -10,6 +10,7 @@ mod allocation;
 mod constants;
 mod faults;
 mod instantiation;
+pub mod laws;
 mod order;
 mod segments;
 
