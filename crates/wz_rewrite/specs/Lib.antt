@@ -7,3 +7,5 @@ pub mod Sections
 pub mod Output
 pub mod Pieces
 pub mod Laws
+pub mod Gathering
+pub mod Views

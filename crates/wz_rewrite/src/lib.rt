@@ -3,5 +3,13 @@
 
 ghost use Rattle.wz_rewrite.specs.Laws.{OutputSpells};
 
+mod gathering;
+mod output;
+mod piece;
+mod pieces;
+
+pub use output::Output;
+pub use piece::Piece;
+
 /// Nothing yet.
 pub fn nothing() {}
