@@ -1,6 +1,6 @@
 -- How the output is cut into pieces, so that it never stands in memory as a whole. This is the tool's own.
-use Rattle.std.specs.Prelude.{ℕ, ◌+◌, Bool, true, not, ◌&&◌, List, [], ◌∷◌, ◌++◌, length, Option, Some, None, if◌then◌else◌, ◌==◌}
-use Rattle.std.specs.List.{flat_map, sum_by, list_any}
+use Rattle.std.specs.Prelude.{ℕ, ◌+◌, Bool, true, not, ◌&&◌, ◌||◌, List, [], ◌∷◌, ◌++◌, length, Option, Some, None, if◌then◌else◌, ◌==◌}
+use Rattle.std.specs.List.{flat_map, sum_by}
 use Rattle.wz_bytes.specs.Shortest.{shortest_unsigned}
 use Rattle.wz_store.specs.State.{Memory}
 use Rattle.wz_module.specs.Sections.{Section}
@@ -71,12 +71,12 @@ abbrev pub keeps_elements : Module → OutputState → Bool
 keeps_elements m o = (length (dropped_elements m o) == 0) && (length o.undeclared == 0)
 
 -- memory, global, export, start, data and data count
-abbrev pub rewritten_ids : List ℕ
-rewritten_ids = 5 ∷ 6 ∷ 7 ∷ 8 ∷ 11 ∷ 12 ∷ []
+abbrev pub is_rewritten : ℕ → Bool
+is_rewritten id = (id == 5) || ((id == 6) || ((id == 7) || ((id == 8) || ((id == 11) || (id == 12)))))
 
 -- All other sections: type, import, function, table, code and custom ones, and the element section where it keeps its contents.
 abbrev pub keeps_contents : Module → OutputState → ℕ → Bool
-keeps_contents m o id = not (list_any (λ other. id == other) rewritten_ids) && (if id == 9 then keeps_elements m o else true)
+keeps_contents m o id = not (is_rewritten id) && (if id == 9 then keeps_elements m o else true)
 
 abbrev pub payload_if_kept : Module → OutputState → Section → List (List ℕ)
 payload_if_kept m o s = if keeps_contents m o s.id then s.payload ∷ [] else []

@@ -4,6 +4,7 @@
 ghost use Rattle.wz_rewrite.specs.Laws.{OutputSpells};
 
 mod gathering;
+pub mod laws;
 mod output;
 mod piece;
 mod pieces;
