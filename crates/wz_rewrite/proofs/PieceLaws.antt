@@ -1,7 +1,7 @@
 -- The pieces of the output: what they have of the input, which ranges they have, and that they are the output.
 use Rattle.std.proofs.Common.{◌≡◌, ℕ, ◌+◌, Bool, true, false, List, [], ◌∷◌, ◌++◌, length, map, Option, Some, None, sym, ap, subst, ◌∙◌, refl, inl, inr, append_assoc, zero-add, lit<, arith}
 use Rattle.std.specs.Prelude.{not, ◌&&◌, ◌||◌, ◌==◌, if◌then◌else◌}
-use Rattle.std.specs.List.{flat_map, zip}
+use Rattle.std.specs.List.{flat_map}
 use Rattle.std.proofs.lemmas.Bool.{cases_Bool}
 use Rattle.std.proofs.lemmas.List.Elements.{All-nil}
 use Rattle.std.proofs.lemmas.List.{append-nil, length-map}
@@ -16,8 +16,8 @@ use Rattle.wz_encode.specs.Datas.{Slot, PassiveSlot, EmptySlot, HeadSlot, slot_t
 use Rattle.wz_encode.specs.SectionText.{section_text}
 use Rattle.wz_snapshot.specs.declared.segment.ChosenSegment.{ChosenSegment}
 use Rattle.wz_rewrite.specs.OutputState.{OutputState, HasRange, HasRanges}
-use Rattle.wz_rewrite.specs.Dropped.{was_emptied}
-use Rattle.wz_rewrite.specs.Slots.{slots_for, slots_at, passive_slot, head_of, output_slots, with_behind, filled_slots}
+use Rattle.wz_rewrite.specs.Dropped.{was_emptied, is_empty_at}
+use Rattle.wz_rewrite.specs.Slots.{slots_from, slots_at, passive_slot, head_of, output_slots, with_behind, filled_slots}
 use Rattle.wz_rewrite.specs.Sections.{lacks, datas_text, renewed_elements, output_payload, brings_elements, new_elements, brings_datas, new_datas, section_with, sections_for}
 use Rattle.wz_rewrite.specs.Output.{sections_text}
 use Rattle.wz_rewrite.specs.Pieces.{OutputPiece, KeptPiece, MadePiece, RangePiece, piece_text, pieces_text, pieces_length, range_of_piece, piece_ranges, kept_of_piece, keeps_elements, keeps_contents, payload_if_kept, slot_pieces, slots_pieces, elements_pieces, contents_pieces, new_elements_pieces, new_datas_pieces, section_pieces, pieces_for, output_pieces}
@@ -80,9 +80,11 @@ slot_ranges PassiveData bytes empty chosen others h = elim (cases_Bool (was_empt
 slot_ranges (ActiveData memory offset) bytes empty [] others h = h []
 slot_ranges (ActiveData memory offset) bytes empty (c ∷ chosen) others h = ap (λ (cs : List ChosenSegment). c ∷ cs) (h chosen)
 
-pub slots_ranges : (datas : List (DataSegment × Bool)) (chosen : List ChosenSegment) → flat_map range_of_piece (flat_map slot_pieces (slots_for datas chosen)) ≡ chosen
-slots_ranges [] chosen = heads_ranges chosen
-slots_ranges (d ∷ datas) chosen = slot_ranges d.0.mode d.0.bytes d.1 chosen (λ left. slots_for datas left) (slots_ranges datas)
+pub slots_ranges : (marks : List Bool) (number : ℕ) (datas : List DataSegment) (chosen : List ChosenSegment)
+    → flat_map range_of_piece (flat_map slot_pieces (slots_from marks number datas chosen)) ≡ chosen
+slots_ranges marks number [] chosen = heads_ranges chosen
+slots_ranges marks number (d ∷ datas) chosen =
+    slot_ranges d.mode d.bytes (is_empty_at marks number) chosen (λ left. slots_from marks (number + 1) datas left) (slots_ranges marks (number + 1) datas)
 
 -- ---- contents as pieces and as bytes
 
@@ -130,7 +132,7 @@ datas_of m o has =
     let slots = output_slots m o in
     let text : pieces_text o.memories (slots_pieces slots) ≡ datas_text (filled_slots m o) =
     rw (length-map slots (λ (slot : Slot). with_behind o.memories slot)) (ap (λ (t : List ℕ). shortest_unsigned (length slots) ++ t) (slots_text o.memories slots)) in
-    let ranges : piece_ranges (slots_pieces slots) ≡ o.chosen = slots_ranges (zip m.datas o.empty_datas) o.chosen in
+    let ranges : piece_ranges (slots_pieces slots) ≡ o.chosen = slots_ranges o.empty_datas 0 m.datas o.chosen in
     let inside = subst (λ (cs : List ChosenSegment). HasRanges o.memories cs) (sym ranges) has in
     record { text = text; size = sym (length-pieces_text o.memories (slots_pieces slots) inside) ∙ ap (λ (t : List ℕ). length t) text }
 
@@ -181,14 +183,14 @@ contents_ranges : (m : Module) (o : OutputState) (payload : List ℕ) (id : ℕ)
     → piece_ranges (section_pieces id (contents_pieces m o id payload)) ≡ (if id == 11 then o.chosen else [])
 contents_ranges m o payload =
     by_id (λ id. piece_ranges (section_pieces id (contents_pieces m o id payload)) ≡ (if id == 11 then o.chosen else [])) refl refl refl refl
-    (elim (cases_Bool (keeps_elements m o)) [ inl e ↦ rw e refl | inr e ↦ rw e refl ]) (slots_ranges (zip m.datas o.empty_datas) o.chosen) refl
+    (elim (cases_Bool (keeps_elements m o)) [ inl e ↦ rw e refl | inr e ↦ rw e refl ]) (slots_ranges o.empty_datas 0 m.datas o.chosen) refl
     (λ id h. rw (h.memories, h.globals, h.exports, h.start, h.elements, h.datas, h.count) refl)
 
 new_elements_ranges : (m : Module) (o : OutputState) (id : ℕ) → piece_ranges (section_pieces 9 (new_elements_pieces m o id)) ≡ []
 new_elements_ranges m o id = elim (cases_Bool (brings_elements m o id)) [ inl e ↦ rw e refl | inr e ↦ rw e refl ]
 
 new_datas_ranges : (m : Module) (o : OutputState) (id : ℕ) → piece_ranges (section_pieces 11 (new_datas_pieces m o id)) ≡ (if brings_datas m o id then o.chosen else [])
-new_datas_ranges m o id = elim (cases_Bool (brings_datas m o id)) [ inl e ↦ rw e (slots_ranges (zip m.datas o.empty_datas) o.chosen) | inr e ↦ rw e refl ]
+new_datas_ranges m o id = elim (cases_Bool (brings_datas m o id)) [ inl e ↦ rw e (slots_ranges o.empty_datas 0 m.datas o.chosen) | inr e ↦ rw e refl ]
 
 abbrev own_ranges : OutputState → Section → List ChosenSegment
 own_ranges o s = if s.id == 11 then o.chosen else []

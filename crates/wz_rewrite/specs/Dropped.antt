@@ -1,7 +1,6 @@
 -- Passive segments that a run dropped (sections 4.4.6 and 4.4.7 of the WebAssembly Core Specification 2.0, `elem.drop` and `data.drop`):
 -- those that have items in the module, and none in the state that was reached.
-use Rattle.std.specs.Prelude.{ℕ, ◌+◌, Bool, true, false, not, ◌&&◌, List, [], ◌∷◌, if◌then◌else◌}
-use Rattle.std.specs.List.{zip}
+use Rattle.std.specs.Prelude.{ℕ, ◌+◌, Bool, true, false, not, ◌&&◌, List, [], ◌∷◌, slice_index_or, if◌then◌else◌}
 use Rattle.wz_module.specs.Elements.{ElemMode, PassiveElem, ActiveElem, DeclarativeElem, Elem}
 use Rattle.wz_module.specs.Module.{Module}
 use Rattle.wz_snapshot.specs.Recorded.{has_no_items}
@@ -20,12 +19,16 @@ is_passive DeclarativeElem = false
 abbrev pub was_dropped : Elem → Bool → Bool
 was_dropped e empty = is_passive e.mode && was_emptied e.init empty
 
--- the numbers of those that were dropped, where the first has this number
-abbrev pub dropped_from : ℕ → List (Elem × Bool) → List ℕ
-dropped_from number [] = []
-dropped_from number (e ∷ elements) =
-    if was_dropped e.0 e.1 then number ∷ dropped_from (number + 1) elements
-    else dropped_from (number + 1) elements
+-- of marks, that of this number; where there is none, the segment isn't empty
+abbrev pub is_empty_at : List Bool → ℕ → Bool
+is_empty_at marks number = slice_index_or marks number false
+
+-- the numbers of the element segments that were dropped, where the first of them has this number
+abbrev pub dropped_from : List Bool → ℕ → List Elem → List ℕ
+dropped_from marks number [] = []
+dropped_from marks number (e ∷ elements) =
+    if was_dropped e (is_empty_at marks number) then number ∷ dropped_from marks (number + 1) elements
+    else dropped_from marks (number + 1) elements
 
 abbrev pub dropped_elements : Module → OutputState → List ℕ
-dropped_elements m o = dropped_from 0 (zip m.elements o.empty_elements)
+dropped_elements m o = dropped_from o.empty_elements 0 m.elements

@@ -1,14 +1,13 @@
 -- What stands in the output's data section (section 5.5.14 of the WebAssembly Core Specification 2.0). Which ranges of the memories are
 -- chosen, and where they stand, is the tool's own.
-use Rattle.std.specs.Prelude.{ℕ, Bool, List, [], ◌∷◌, map, if◌then◌else◌}
-use Rattle.std.specs.List.{zip}
+use Rattle.std.specs.Prelude.{ℕ, ◌+◌, Bool, List, [], ◌∷◌, map, if◌then◌else◌}
 use Rattle.wz_store.specs.State.{Memory}
 use Rattle.wz_module.specs.Datas.{DataMode, PassiveData, ActiveData, DataSegment}
 use Rattle.wz_module.specs.Module.{Module}
 use Rattle.wz_encode.specs.Datas.{Slot, PassiveSlot, EmptySlot, HeadSlot}
 use Rattle.wz_snapshot.specs.declared.segment.ChosenSegment.{ChosenSegment}
 use Rattle.wz_rewrite.specs.OutputState.{OutputState, range_bytes}
-use Rattle.wz_rewrite.specs.Dropped.{was_emptied}
+use Rattle.wz_rewrite.specs.Dropped.{was_emptied, is_empty_at}
 
 -- A passive segment keeps its bytes and its place. One that was dropped has none any more.
 abbrev pub passive_slot : List ℕ → Bool → Slot
@@ -27,13 +26,13 @@ abbrev pub slots_at : DataMode → List ℕ → Bool → List ChosenSegment → 
 slots_at PassiveData bytes empty chosen others = passive_slot bytes empty ∷ others chosen
 slots_at (ActiveData memory offset) bytes empty chosen others = active_slots chosen others
 
--- Each segment's place in its order, and behind them the chosen ranges that are left. Beside each segment stands whether it is empty.
-abbrev pub slots_for : List (DataSegment × Bool) → List ChosenSegment → List Slot
-slots_for [] chosen = map head_of chosen
-slots_for (d ∷ datas) chosen = slots_at d.0.mode d.0.bytes d.1 chosen (λ left. slots_for datas left)
+-- Each segment's place in its order, where the first has this number, and behind them the chosen ranges that are left.
+abbrev pub slots_from : List Bool → ℕ → List DataSegment → List ChosenSegment → List Slot
+slots_from marks number [] chosen = map head_of chosen
+slots_from marks number (d ∷ datas) chosen = slots_at d.mode d.bytes (is_empty_at marks number) chosen (λ left. slots_from marks (number + 1) datas left)
 
 abbrev pub output_slots : Module → OutputState → List Slot
-output_slots m o = slots_for (zip m.datas o.empty_datas) o.chosen
+output_slots m o = slots_from o.empty_datas 0 m.datas o.chosen
 
 -- the bytes that follow a slot: those of its range, where it is one
 abbrev pub behind_slot : List Memory → Slot → List ℕ
