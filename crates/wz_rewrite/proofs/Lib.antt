@@ -4,3 +4,6 @@ pub mod WritingLemmas
 pub mod IdLemmas
 pub mod SectionLemmas
 pub mod PieceLaws
+pub mod ExportLemmas
+pub mod GlobalLemmas
+pub mod SegmentLemmas

@@ -9,3 +9,4 @@ pub mod Pieces
 pub mod Laws
 pub mod Gathering
 pub mod Views
+pub mod Sources
