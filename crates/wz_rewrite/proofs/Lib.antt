@@ -7,3 +7,6 @@ pub mod PieceLaws
 pub mod ExportLemmas
 pub mod GlobalLemmas
 pub mod SegmentLemmas
+pub mod PreparedLemmas
+pub mod LookupLemmas
+pub mod OrderLemmas

@@ -100,7 +100,7 @@ rises_before n ns low h zero (suc j) d ij inside = low j d (omega (arith, inside
 rises_before n ns low h (suc i) zero d ij inside = absurd (omega (arith, ij))
 rises_before n ns low h (suc i) (suc j) d ij inside = h i j d (omega (arith, ij)) (omega (arith, inside))
 
-dropped_above : (marks : List Bool) (number : ℕ) (elements : List Elem) → All (λ other. number ≤ other) (dropped_from marks number elements)
+pub dropped_above : (marks : List Bool) (number : ℕ) (elements : List Elem) → All (λ other. number ≤ other) (dropped_from marks number elements)
 dropped_above marks number [] = All-nil (λ other. number ≤ other)
 dropped_above marks number (e ∷ elements) =
     let more = All-weaker (λ other. number + 1 ≤ other) (λ other. number ≤ other) (λ other h. omega (arith, h)) _ (dropped_above marks (number + 1) elements) in

@@ -1,8 +1,6 @@
 //! The output.
 #![tactic(auto)]
 
-ghost use Rattle.wz_rewrite.specs.Laws.{OutputSpells};
-
 mod contents;
 mod dropped;
 mod elements;
@@ -14,10 +12,9 @@ mod piece;
 mod pieces;
 mod places;
 mod slots;
+mod preparing;
 mod sources;
 
 pub use output::Output;
 pub use piece::Piece;
-
-/// Nothing yet.
-pub fn nothing() {}
+pub use preparing::prepare;
