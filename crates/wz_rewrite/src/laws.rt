@@ -1,0 +1,12 @@
+//! What holds of the output, whatever writes it: the contract of each function is a law, and its
+//! body is empty.
+
+ghost use Rattle.wz_rewrite.specs.Laws.{PiecesAreOutput, PiecesAreChosen, PiecesAreKept};
+
+/// The pieces, with each range read from its memory, are the output's bytes; their ranges are the
+/// chosen ones; and what they have of the input is just the contents that stay.
+pub fn pieces_are_output()
+    ensures bytes { PiecesAreOutput }
+    ensures ranges { PiecesAreChosen }
+    ensures kept { PiecesAreKept }
+{}
