@@ -1,3 +1,4 @@
+pub mod ReachLemmas
 pub mod TurnLemmas
 pub mod SampleLaws
 pub mod SampleSize
@@ -7,7 +8,3 @@ pub mod DeliverLemmas
 pub mod VerdictLaws
 pub mod InputLemmas
 pub mod RunLemmas
-pub mod FirstRunLemmas
-pub mod FirstLaws
-pub mod FirstRulesLemmas
-pub mod FirstItemsLemmas

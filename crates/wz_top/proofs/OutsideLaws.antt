@@ -20,7 +20,7 @@ use Rattle.wz_valid.specs.Profile.{IsFunctionImport, IsOutside, IsOtherImport, H
 
 -- ---- lists
 
-value_in : {X : Type 0} (P : X → Type 0) (o : Option X) → IsSomeAnd o P → (x : X) × (o ≡ Some x) × P x
+pub value_in : {X : Type 0} (P : X → Type 0) (o : Option X) → IsSomeAnd o P → (x : X) × (o ≡ Some x) × P x
 value_in P (Some x) h = (x, refl, h)
 value_in P None h = absurd h
 

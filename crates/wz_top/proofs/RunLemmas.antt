@@ -11,14 +11,16 @@ use Rattle.wz_words.specs.Settings.{Settings}
 use Rattle.wz_decode.specs.declared.fault.DecodeFault.TheVariants as decode
 use Rattle.wz_valid.specs.declared.faults.ValidFault.TheVariants as valid
 use Rattle.wz_exports.specs.declared.fault.ExportFault.TheVariants as export
+use Rattle.wz_init.specs.declared.faults.InitFault.TheVariants as init
 use Rattle.wz_top.specs.Devices.{IsInputFrom, IsInputTold, HasInputFailed, HasWritten, HoldsPrefix, OnlyRead, IsReadFrom}
 use Rattle.wz_top.specs.Words.{input_name, output_name}
 use Rattle.wz_top.specs.Refusals.{usage_outcome}
 use Rattle.wz_top.specs.Verdict.{Verdict, Refuses, Gives, IsVerdict, IsRefusedBy, OneVerdict}
+use Rattle.wz_top.specs.Making.{IsMade}
 use Rattle.wz_top.specs.Asked.{Asked, Answers, Delivers, SettingsAsk, BytesAsk, asked_by, IsTold, IsAnswer, Ran, IsComplete, IsDoneOrNoMemory, InputFailed, OnInputFault, OnOutputFault, OnUnfinished}
 use Rattle.wz_top.specs.declared.outcome.Report.{Report}
 use Rattle.wz_top.specs.declared.outcome.Outcome.{Outcome}
-use Rattle.wz_top.specs.declared.outcome.Outcome.TheVariants.{Done, NotYet, Usage, InputFault, InputTooLong, Decode, Valid, Profile, Exports, OutputFault, NoMemory}
+use Rattle.wz_top.specs.declared.outcome.Outcome.TheVariants.{Done, Usage, InputFault, InputTooLong, Decode, Valid, Profile, Exports, Init, OutputFault, NoMemory}
 use Rattle.wz_top.proofs.InputLemmas.{one_input_from}
 
 nothing_read : (w : World) → OnlyRead w w
@@ -86,6 +88,7 @@ module _ (one : OneVerdict) (s : Settings) where
   ran_refused before now bytes (Decode decode.NoMemory) here short is read from = absurd is
   ran_refused before now bytes (Valid valid.NoMemory) here short is read from = absurd is
   ran_refused before now bytes (Exports export.NoMemory) here short is read from = absurd is
+  ran_refused before now bytes (Init init.NoMemory) here short is read from = absurd is
   ran_refused before now bytes refusal here short is read from = record {
     done = tt;
     input_fault = tt;
@@ -148,6 +151,19 @@ module _ (one : OneVerdict) (s : Settings) (before mid now : World) (bytes right
     unfinished = inr (target, report, right, asks, holds_before target right before mid now read.told holds);
     answer = answer OutputFault tt;
   }
+
+-- ---- behind the module's acceptance
+
+module _ (one : OneVerdict) (s : Settings) (before mid now : World) (bytes : List ℕ) (here : IsInputFrom before.told s.input bytes)
+    (short : length bytes ≤ input_limit) (read : OnlyRead before mid) (from : IsReadFrom (input_name s.input) before mid) where
+  stays_so : (outcome : Outcome) → now ≡ mid → Ran outcome (Ok s) before mid → Ran outcome (Ok s) before now
+  stays_so outcome same ran = subst (λ (w : World). Ran outcome (Ok s) before w) (sym same) ran
+
+  pub ran_made : (outcome : Outcome) → IsMade s bytes outcome mid now → Ran outcome (Ok s) before now
+  ran_made (Done report) h = ran_done one s before mid now bytes h.0 report here short h.1 read h.2
+  ran_made OutputFault h = ran_output_fault one s before mid now bytes h.1 h.0 here short h.2 read h.4 h.3
+  ran_made NoMemory h = stays_so NoMemory h (ran_no_memory one s before mid read)
+  ran_made outcome h = stays_so outcome h.1 (ran_refused one s before mid bytes outcome here short h.0 read from)
 
 -- ---- completeness
 

@@ -17,10 +17,16 @@ use Rattle.wz_words.specs.Settings.{Settings}
 use Rattle.wz_exports.specs.Kept.{KeptExports, kept}
 use Rattle.wz_exports.specs.declared.fault.ExportFault.{ExportFault}
 use Rattle.wz_exports.specs.declared.fault.ExportFault.TheVariants as export
-use Rattle.wz_top.specs.Refusals.{decode_outcome, valid_outcome, export_outcome}
-use Rattle.wz_top.specs.Verdict.{Gives, IsVerdict, IsRefusedBy, IsAccepted, NothingGoes, RunGives}
-use Rattle.wz_top.specs.declared.outcome.Report.{Report}
-use Rattle.wz_top.specs.declared.outcome.Outcome.TheVariants.{NotYet, Profile}
+use Rattle.wz_store.specs.Made.{StoreState}
+use Rattle.wz_init.specs.declared.faults.InitFault.{InitFault}
+use Rattle.wz_init.specs.declared.faults.InitFault.TheVariants as init
+use Rattle.wz_init.specs.Run.{FuelIsSpent, TableWouldChange, FramesAreTooMany, LocalsAreTooMany, Trapped, NoRuleFits, FloatIsAsked, ImportIsCalled}
+use Rattle.wz_init.specs.States.{state_in}
+use Rattle.wz_init.specs.Ready.{Ready, Reached, StoppedIn, UnfitElement, UnfitData, ready, IsRefused as InitRefused}
+use Rattle.wz_top.specs.Refusals.{decode_outcome, valid_outcome, export_outcome, init_outcome}
+use Rattle.wz_top.specs.Making.{IsRun}
+use Rattle.wz_top.specs.Verdict.{Verdict, IsVerdict, IsRefusedBy, IsAccepted, order_of, RunComes, RunAsks, reached_verdict}
+use Rattle.wz_top.specs.declared.outcome.Outcome.TheVariants.{Profile}
 
 pub if_none : {X : Type 0} (o : Option X) → o ≡ None → IsNone o
 if_none {X = X} o e = subst (λ (x : Option X). IsNone x) (sym e) refl
@@ -55,11 +61,28 @@ export_refused s bytes m export.NoMemory a is = tt
 export_refused s bytes m fault a (inl is) = absurd cc
 export_refused s bytes m fault a (inr is) = inr (m, a.spelled, inr (a.valid, inr (a.inside, inl (fault, is, refl))))
 
-pub run_refused : (s : Settings) (bytes : List ℕ) (m : Module) (k : KeptExports) → IsAccepted bytes m → kept m s ≡ Ok k → NothingGoes s bytes → IsRefusedBy s bytes NotYet
-unfolding IsVerdict
-run_refused s bytes m k a keeps none = inr (m, a.spelled, inr (a.valid, inr (a.inside, inr (k, keeps, inl (none, refl)))))
+-- what comes of the run is what the bytes ask for
+run_asks : (s : Settings) (bytes : List ℕ) (m : Module) (k : KeptExports) (r : Ready) (v : Verdict) → IsAccepted bytes m → kept m s ≡ Ok k → ready m (order_of s k) ≡ r
+    → RunComes m k r v → IsVerdict s bytes v
+unfolding IsVerdict RunAsks
+run_asks s bytes m k r v a keeps e comes =
+    inr (m, a.spelled, inr (a.valid, inr (a.inside, inr (k, keeps, subst (λ (x : Ready). RunComes m k x v) (sym e) comes))))
 
-pub run_gives : (s : Settings) (bytes : List ℕ) (m : Module) (k : KeptExports) (said : Report) (right : List ℕ) → IsAccepted bytes m → kept m s ≡ Ok k
-    → RunGives s bytes k said right → IsVerdict s bytes (Gives said right)
-unfolding IsVerdict
-run_gives s bytes m k said right a keeps gives = inr (m, a.spelled, inr (a.valid, inr (a.inside, inr (k, keeps, gives))))
+pub run_refused : (s : Settings) (bytes : List ℕ) (m : Module) (k : KeptExports) (fault : InitFault) → IsAccepted bytes m → kept m s ≡ Ok k
+    → InitRefused m (order_of s k) fault → IsRefusedBy s bytes (init_outcome fault)
+run_refused s bytes m k (init.ElementOutOfBounds index) a keeps is = run_asks s bytes m k (UnfitElement index) _ a keeps is refl
+run_refused s bytes m k (init.DataOutOfBounds index) a keeps is = run_asks s bytes m k (UnfitData index) _ a keeps is refl
+run_refused s bytes m k (init.Trap phase kind) a keeps is = run_asks s bytes m k (StoppedIn phase (Trapped kind)) _ a keeps is refl
+run_refused s bytes m k init.OutOfFuel a keeps is = run_asks s bytes m k (StoppedIn is.0 FuelIsSpent) _ a keeps is.1 refl
+run_refused s bytes m k (init.ImportCalled import) a keeps is = run_asks s bytes m k (StoppedIn is.0 (ImportIsCalled import)) _ a keeps is.1 refl
+run_refused s bytes m k (init.FloatUsed op) a keeps is = run_asks s bytes m k (StoppedIn is.0 (FloatIsAsked op)) _ a keeps is.1 refl
+run_refused s bytes m k init.TableChanged a keeps is = run_asks s bytes m k (StoppedIn is.0 TableWouldChange) _ a keeps is.1 refl
+run_refused s bytes m k init.TooManyFrames a keeps is = run_asks s bytes m k (StoppedIn is.0 FramesAreTooMany) _ a keeps is.1 refl
+run_refused s bytes m k init.TooManyFrameLocals a keeps is = run_asks s bytes m k (StoppedIn is.0 LocalsAreTooMany) _ a keeps is.1 refl
+run_refused s bytes m k init.Stuck a keeps is = run_asks s bytes m k (StoppedIn is.0 NoRuleFits) _ a keeps is.1 refl
+run_refused s bytes m k init.NoMemory a keeps is = tt
+
+-- the output of the state that was reached, with its report
+pub run_gives : (s : Settings) (bytes : List ℕ) (m : Module) (k : KeptExports) (store : StoreState) (ticks : ℕ) → IsRun s bytes m k store ticks
+    → IsVerdict s bytes (reached_verdict m k (state_in m store) ticks)
+run_gives s bytes m k store ticks run = run_asks s bytes m k (Reached (state_in m store) ticks) _ run.accepted run.keeps run.reached refl

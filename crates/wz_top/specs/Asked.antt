@@ -10,12 +10,13 @@ use Rattle.wz_words.specs.Faults.{settings}
 use Rattle.wz_decode.specs.declared.fault.DecodeFault.TheVariants as decode
 use Rattle.wz_valid.specs.declared.faults.ValidFault.TheVariants as valid
 use Rattle.wz_exports.specs.declared.fault.ExportFault.TheVariants as export
+use Rattle.wz_init.specs.declared.faults.InitFault.TheVariants as init
 use Rattle.wz_top.specs.Devices.{IsInputFrom, IsInputTold, HasInputFailed, HasWritten, HoldsPrefix, OnlyRead, IsReadFrom}
 use Rattle.wz_top.specs.Words.{input_name, output_name}
 use Rattle.wz_top.specs.Verdict.{Verdict, Refuses, Gives, IsVerdict}
 use Rattle.wz_top.specs.declared.outcome.Report.{Report}
 use Rattle.wz_top.specs.declared.outcome.Outcome.{Outcome}
-use Rattle.wz_top.specs.declared.outcome.Outcome.TheVariants.{Done, NotYet, Usage, InputFault, InputTooLong, Decode, Valid, Profile, Exports, OutputFault, NoMemory}
+use Rattle.wz_top.specs.declared.outcome.Outcome.TheVariants.{Done, Usage, InputFault, InputTooLong, Decode, Valid, Profile, Exports, Init, OutputFault, NoMemory}
 
 -- an answer, or an output with its report
 pub data Asked : Type 0 where
@@ -59,6 +60,7 @@ OnRefusal (Usage usage.NoMemory) IsAsked = ⊥
 OnRefusal (Decode decode.NoMemory) IsAsked = ⊥
 OnRefusal (Valid valid.NoMemory) IsAsked = ⊥
 OnRefusal (Exports export.NoMemory) IsAsked = ⊥
+OnRefusal (Init init.NoMemory) IsAsked = ⊥
 OnRefusal refusal IsAsked = IsAsked (Answers refusal)
 
 -- The input that the words name failed.

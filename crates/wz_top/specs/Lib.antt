@@ -4,14 +4,8 @@ pub mod Saying
 pub mod Pieces
 pub mod Words
 pub mod Devices
-pub mod FirstGrammar
-pub mod FirstReading
-pub mod FirstItems
-pub mod FirstViews
-pub mod FirstRun
-pub mod FirstRunViews
-pub mod FirstWriter
 pub mod Refusals
 pub mod Verdict
 pub mod Asked
 pub mod Samples
+pub mod Making

@@ -2,13 +2,14 @@
 use Rattle.std.specs.Prelude.{ℕ, List, decimal}
 use Rattle.std.specs.List.{flat_map}
 use Rattle.wz_top.specs.declared.pieces.Piece.{Piece}
-use Rattle.wz_top.specs.declared.pieces.Piece.TheVariants.{Words, Number, Name}
-use Rattle.wz_top.specs.Texts.{quoted}
+use Rattle.wz_top.specs.declared.pieces.Piece.TheVariants.{Words, Number, Name, Byte}
+use Rattle.wz_top.specs.Texts.{quoted, hex_byte}
 
 abbrev pub piece_text : Piece → List ℕ
 piece_text (Words text) = text.now
 piece_text (Number number) = decimal number
 piece_text (Name name) = quoted name.now
+piece_text (Byte byte) = hex_byte byte
 
 abbrev pub pieces_text : List Piece → List ℕ
 pieces_text pieces = flat_map piece_text pieces

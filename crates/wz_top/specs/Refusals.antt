@@ -8,6 +8,8 @@ use Rattle.wz_valid.specs.declared.faults.ValidFault.{ValidFault}
 use Rattle.wz_valid.specs.declared.faults.ValidFault.TheVariants as valid
 use Rattle.wz_exports.specs.declared.fault.ExportFault.{ExportFault}
 use Rattle.wz_exports.specs.declared.fault.ExportFault.TheVariants as export
+use Rattle.wz_init.specs.declared.faults.InitFault.{InitFault}
+use Rattle.wz_init.specs.declared.faults.InitFault.TheVariants as init
 use Rattle.wz_top.specs.declared.outcome.Outcome.{Outcome}
 use Rattle.wz_top.specs.declared.outcome.Outcome.TheVariants as outcome
 
@@ -26,3 +28,7 @@ valid_outcome fault = outcome.Valid fault
 abbrev pub export_outcome : ExportFault → Outcome
 export_outcome export.NoMemory = outcome.NoMemory
 export_outcome fault = outcome.Exports fault
+
+abbrev pub init_outcome : InitFault → Outcome
+init_outcome init.NoMemory = outcome.NoMemory
+init_outcome fault = outcome.Init fault

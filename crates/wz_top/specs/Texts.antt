@@ -1,5 +1,9 @@
 -- The line that tells how a run ended. All words are this tool's own. Numbers are decimal, and places count from 0.
-use Rattle.std.specs.Prelude.{ℕ, Bool, true, false, not, List, [], ◌∷◌, ◌++◌, codes, decimal, if◌then◌else◌}
+use Rattle.std.specs.Prelude.{ℕ, ◌+◌, ◌/◌, ◌%◌, nat_lt, Bool, true, false, not, List, [], ◌∷◌, ◌++◌, Option, None, Some, codes, decimal, if◌then◌else◌}
+use Rattle.wz_types.specs.declared.trap.TrapKind.{TrapKind}
+use Rattle.wz_types.specs.declared.trap.TrapKind.TheVariants as trap
+use Rattle.wz_code.specs.declared.numeric.NumOp.{NumOp}
+use Rattle.wz_code.specs.Numeric.{opcode_of}
 use Rattle.wz_words.specs.declared.settings.Usage.{Usage}
 use Rattle.wz_words.specs.declared.settings.Usage.TheVariants as usage
 use Rattle.wz_decode.specs.declared.fault.DecodeFault.{DecodeFault}
@@ -12,9 +16,13 @@ use Rattle.wz_valid.specs.declared.faults.OutOfProfile.{OutOfProfile}
 use Rattle.wz_valid.specs.declared.faults.OutOfProfile.TheVariants as profile
 use Rattle.wz_exports.specs.declared.fault.ExportFault.{ExportFault}
 use Rattle.wz_exports.specs.declared.fault.ExportFault.TheVariants as export
+use Rattle.wz_init.specs.declared.order.Phase.{Phase}
+use Rattle.wz_init.specs.declared.order.Phase.TheVariants as phase
+use Rattle.wz_init.specs.declared.faults.InitFault.{InitFault}
+use Rattle.wz_init.specs.declared.faults.InitFault.TheVariants as init
 use Rattle.wz_top.specs.declared.outcome.Report.{Report}
 use Rattle.wz_top.specs.declared.outcome.Outcome.{Outcome}
-use Rattle.wz_top.specs.declared.outcome.Outcome.TheVariants.{Done, NotYet, Usage as BadWords, InputFault, InputTooLong, Decode, Valid, Profile, Exports, OutputFault, NoMemory}
+use Rattle.wz_top.specs.declared.outcome.Outcome.TheVariants.{Done, Usage as BadWords, InputFault, InputTooLong, Decode, Valid, Profile, Exports, Init, OutputFault, NoMemory}
 
 -- texts one behind the other
 abbrev pub joined : List (List ℕ) → List ℕ
@@ -103,9 +111,56 @@ export_words (export.RenameNotFunction name) = named (codes "the export ") name 
 export_words (export.RenameInit name) = named (codes "the export ") name (codes " leaves and can't be renamed")
 export_words export.NoMemory = no_memory_words
 
+abbrev pub phase_word : Phase → List ℕ
+phase_word phase.Start = codes "start"
+phase_word phase.Reactor = codes "_initialize"
+phase_word phase.Init = codes "initialisation"
+
+abbrev pub trap_words : TrapKind → List ℕ
+trap_words trap.Unreachable = codes "unreachable"
+trap_words trap.DivideByZero = codes "integer divide by zero"
+trap_words trap.IntegerOverflow = codes "integer overflow"
+trap_words trap.MemoryBounds = codes "out of bounds memory access"
+trap_words trap.TableBounds = codes "out of bounds table access"
+trap_words trap.UndefinedElement = codes "undefined element"
+trap_words trap.UninitializedElement = codes "uninitialized element"
+trap_words trap.IndirectType = codes "indirect call type mismatch"
+trap_words trap.Float = codes "float"
+trap_words trap.Host = codes "host"
+
+-- a byte in two upper-case hexadecimal digits
+abbrev pub hex_digit : ℕ → ℕ
+hex_digit n = if nat_lt n 10 then 48 + n else 55 + n
+
+abbrev pub hex_byte : ℕ → List ℕ
+hex_byte byte = hex_digit (byte / 16) ∷ hex_digit (byte % 16) ∷ []
+
+-- the byte of an operation, and the number behind it where there is one
+abbrev pub opcode_words : ℕ × Option ℕ → List ℕ
+opcode_words (byte, None) = hex_byte byte
+opcode_words (byte, Some number) = joined (hex_byte byte ∷ codes " " ∷ decimal number ∷ [])
+
+abbrev pub trapped_words : Phase → TrapKind → List ℕ
+trapped_words phase kind = joined (phase_word phase ∷ codes " trapped: " ∷ trap_words kind ∷ [])
+
+abbrev pub float_words : NumOp → List ℕ
+float_words op = codes "the initialisation uses the float operation " ++ opcode_words (opcode_of op)
+
+abbrev pub init_words : InitFault → List ℕ
+init_words (init.ElementOutOfBounds index) = numbered (codes "element segment ") index (codes " doesn't fit its table")
+init_words (init.DataOutOfBounds index) = numbered (codes "data segment ") index (codes " doesn't fit its memory")
+init_words (init.Trap phase kind) = trapped_words phase kind
+init_words init.OutOfFuel = codes "the fuel ran out"
+init_words (init.ImportCalled import) = numbered (codes "the initialisation calls import ") import []
+init_words (init.FloatUsed op) = float_words op
+init_words init.TableChanged = codes "the initialisation changes a table"
+init_words init.TooManyFrames = codes "more than 20000 frames"
+init_words init.TooManyFrameLocals = codes "more than 4000000 locals in all frames"
+init_words init.Stuck = codes "the machine is stuck"
+init_words init.NoMemory = no_memory_words
+
 abbrev pub outcome_words : Outcome → List ℕ
 outcome_words (Done report) = report_words report
-outcome_words NotYet = codes "this form of input isn't built yet"
 outcome_words (BadWords fault) = usage_words fault
 outcome_words InputFault = codes "the input can't be read"
 outcome_words InputTooLong = codes "the input is longer than 33554432 bytes"
@@ -113,6 +168,7 @@ outcome_words (Decode fault) = decode_words fault
 outcome_words (Valid fault) = valid_words fault
 outcome_words (Profile cause) = profile_words cause
 outcome_words (Exports fault) = export_words fault
+outcome_words (Init fault) = init_words fault
 outcome_words OutputFault = codes "the output can't be written"
 outcome_words NoMemory = no_memory_words
 

@@ -9,18 +9,12 @@
 
 mod deliver;
 mod fetch;
-mod first_grammar;
-mod first_module;
-mod first_path;
-mod first_reader;
-mod first_rules;
-mod first_run;
-mod first_vector;
-mod first_writer;
 pub mod laws;
+mod making;
 mod outcome;
 mod pieces;
 mod refusals;
+mod stand_in;
 #[cfg(test)]
 mod tests;
 mod texts;

@@ -5,6 +5,7 @@ ghost use Rattle.wz_top.specs.Outcome.{status};
 
 use wz_decode::DecodeFault;
 use wz_exports::ExportFault;
+use wz_init::InitFault;
 use wz_valid::{OutOfProfile, ValidFault};
 use wz_words::Usage;
 
@@ -23,8 +24,6 @@ pub struct Report {
 pub enum Outcome {
     /// The output was written.
     Done(Report),
-    /// The module or the settings are of a form that isn't built yet.
-    NotYet,
     /// The words ask for nothing.
     Usage(Usage),
     /// The input can't be read.
@@ -39,6 +38,8 @@ pub enum Outcome {
     Profile(OutOfProfile),
     /// The exports that the words name can't be had.
     Exports(ExportFault),
+    /// The run came to no state.
+    Init(InitFault),
     /// The output can't be written.
     OutputFault,
     NoMemory,
@@ -51,11 +52,11 @@ impl Outcome {
     {
         match self {
             Outcome::Done(_) => 0,
-            Outcome::NotYet
-            | Outcome::Decode(_)
+            Outcome::Decode(_)
             | Outcome::Valid(_)
             | Outcome::Profile(_)
-            | Outcome::Exports(_) => 1,
+            | Outcome::Exports(_)
+            | Outcome::Init(_) => 1,
             Outcome::Usage(_) => 2,
             Outcome::InputFault | Outcome::InputTooLong | Outcome::OutputFault => 3,
             Outcome::NoMemory => 4,

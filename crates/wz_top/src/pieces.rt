@@ -1,11 +1,11 @@
 //! Lines of messages, piece by piece.
 
-ghost use Rattle.std.specs.Prelude.{OnOk, OnErr};
+ghost use Rattle.std.specs.Prelude.{◌≡◌, ◌<◌, OnOk, OnErr};
 ghost use Rattle.wz_io.specs.World.{Said};
 ghost use Rattle.wz_top.specs.Saying.{SaysAll, SaysFirst};
 ghost use Rattle.wz_top.specs.Pieces.{piece_text, pieces_text};
 ghost use Rattle.std.specs.Prelude.{decimal};
-ghost use Rattle.wz_top.specs.Texts.{quoted};
+ghost use Rattle.wz_top.specs.Texts.{quoted, hex_digit};
 
 use itoa::Buffer;
 use wz_io::{Failed, Sink};
@@ -18,6 +18,8 @@ pub enum Piece<'t> {
     Number(u64),
     /// A name between double quotes.
     Name(&'t str),
+    /// A byte in two upper-case hexadecimal digits.
+    Byte(u8),
 }
 
 /// Puts all the bytes, by as many puts as it takes.
@@ -60,6 +62,14 @@ fn put_name<E: Sink>(name: &str, messages: &mut E) -> Result<(), Failed>
     put_words("\"", messages)
 }
 
+/// The character of a digit below 16.
+fn hex_digit(digit: u8) -> u8
+    requires { digit < 16 }
+    ensures { result ≡ hex_digit digit }
+{
+    if digit < 10 { b'0' + digit } else { b'A' - 10 + digit }
+}
+
 fn put_piece<E: Sink>(piece: Piece<'_>, messages: &mut E) -> Result<(), Failed>
     ensures all { OnOk result
         (SaysAll (piece_text piece.entry) (E.said messages.old) (E.said messages.new)) }
@@ -70,6 +80,7 @@ fn put_piece<E: Sink>(piece: Piece<'_>, messages: &mut E) -> Result<(), Failed>
         Piece::Words(words) => put_words(words, messages),
         Piece::Number(number) => put_number(number, messages),
         Piece::Name(name) => put_name(name, messages),
+        Piece::Byte(byte) => put_all(&[hex_digit(byte / 16), hex_digit(byte % 16)], messages),
     }
 }
 

@@ -2,11 +2,12 @@
 
 ghost use Rattle.std.specs.Prelude.{◌≡◌};
 ghost use Rattle.wz_top.specs.Refusals.{usage_outcome, decode_outcome, valid_outcome};
-ghost use Rattle.wz_top.specs.Refusals.{export_outcome};
+ghost use Rattle.wz_top.specs.Refusals.{export_outcome, init_outcome};
 
 use crate::Outcome;
 use wz_decode::DecodeFault;
 use wz_exports::ExportFault;
+use wz_init::InitFault;
 use wz_valid::ValidFault;
 use wz_words::Usage;
 
@@ -43,5 +44,14 @@ pub fn export_outcome(fault: ExportFault) -> Outcome
     match fault {
         ExportFault::NoMemory => Outcome::NoMemory,
         fault => Outcome::Exports(fault),
+    }
+}
+
+pub fn init_outcome(fault: InitFault) -> Outcome
+    ensures { result ≡ init_outcome fault }
+{
+    match fault {
+        InitFault::NoMemory => Outcome::NoMemory,
+        _ => Outcome::Init(fault),
     }
 }

@@ -8,14 +8,17 @@ ghost use Rattle.wz_top.specs.Texts.{numbered, named, report_words, usage_words}
 ghost use Rattle.wz_top.specs.Texts.{decode_words, part_word, invalid_words};
 ghost use Rattle.wz_top.specs.Texts.{large_table_words, many_locals_words};
 ghost use Rattle.wz_top.specs.Texts.{valid_words, profile_words, export_words, outcome_words};
-ghost use Rattle.wz_top.specs.Texts.{line, is_silent, text};
+ghost use Rattle.wz_top.specs.Texts.{phase_word, trap_words, trapped_words, opcode_words};
+ghost use Rattle.wz_top.specs.Texts.{float_words, init_words, line, is_silent, text};
 
 use crate::pieces::{Piece, put_pieces, put_words};
 use crate::{Outcome, Report};
+use wz_code::{NumOp, opcode};
 use wz_decode::DecodeFault;
 use wz_exports::ExportFault;
+use wz_init::{InitFault, Phase};
 use wz_io::{Failed, Sink};
-use wz_types::Text;
+use wz_types::{Text, TrapKind};
 use wz_valid::{OutOfProfile, Part, ValidFault};
 use wz_words::Usage;
 
@@ -292,6 +295,120 @@ fn put_exports<E: Sink>(fault: &ExportFault, messages: &mut E) -> Result<(), Fai
     }
 }
 
+fn phase_word(phase: Phase) -> &'static str
+    ensures { result.now ≡ phase_word phase }
+{
+    match phase {
+        Phase::Start => "start",
+        Phase::Reactor => "_initialize",
+        Phase::Init => "initialisation",
+    }
+}
+
+fn trap_words(kind: TrapKind) -> &'static str
+    ensures { result.now ≡ trap_words kind }
+{
+    match kind {
+        TrapKind::Unreachable => "unreachable",
+        TrapKind::DivideByZero => "integer divide by zero",
+        TrapKind::IntegerOverflow => "integer overflow",
+        TrapKind::MemoryBounds => "out of bounds memory access",
+        TrapKind::TableBounds => "out of bounds table access",
+        TrapKind::UndefinedElement => "undefined element",
+        TrapKind::UninitializedElement => "uninitialized element",
+        TrapKind::IndirectType => "indirect call type mismatch",
+        TrapKind::Float => "float",
+        TrapKind::Host => "host",
+    }
+}
+
+fn put_trapped<E: Sink>(phase: Phase, kind: TrapKind, messages: &mut E) -> Result<(), Failed>
+    ensures all { OnOk result
+        (SaysAll (trapped_words phase kind) (E.said messages.old) (E.said messages.new)) }
+    ensures some { OnErr result
+        (SaysFirst (trapped_words phase kind) (E.said messages.old) (E.said messages.new)) }
+{
+    let pieces = [
+        Piece::Words(phase_word(phase)),
+        Piece::Words(" trapped: "),
+        Piece::Words(trap_words(kind)),
+    ];
+    put_pieces(&pieces, messages)
+}
+
+/// The byte of an operation, and the number behind it where there is one.
+fn put_opcode<E: Sink>(
+    byte: u8,
+    number: Option<u32>,
+    messages: &mut E,
+) -> Result<(), Failed>
+    ensures all { OnOk result
+        (SaysAll (opcode_words (byte, number)) (E.said messages.old) (E.said messages.new)) }
+    ensures some { OnErr result
+        (SaysFirst (opcode_words (byte, number)) (E.said messages.old) (E.said messages.new)) }
+{
+    match number {
+        None => put_pieces(&[Piece::Byte(byte)], messages),
+        Some(number) => {
+            let pieces = [
+                Piece::Byte(byte),
+                Piece::Words(" "),
+                Piece::Number(u64::from(number)),
+            ];
+            put_pieces(&pieces, messages)
+        }
+    }
+}
+
+fn put_float<E: Sink>(op: NumOp, messages: &mut E) -> Result<(), Failed>
+    ensures all { OnOk result
+        (SaysAll (float_words op) (E.said messages.old) (E.said messages.new)) }
+    ensures some { OnErr result
+        (SaysFirst (float_words op) (E.said messages.old) (E.said messages.new)) }
+{
+    let (byte, number) = opcode(op);
+    put_words("the initialisation uses the float operation ", messages)?;
+    put_opcode(byte, number, messages)
+}
+
+fn put_init<E: Sink>(fault: InitFault, messages: &mut E) -> Result<(), Failed>
+    ensures all { OnOk result
+        (SaysAll (init_words fault) (E.said messages.old) (E.said messages.new)) }
+    ensures some { OnErr result
+        (SaysFirst (init_words fault) (E.said messages.old) (E.said messages.new)) }
+{
+    match fault {
+        InitFault::ElementOutOfBounds { index } => put_numbered(
+            "element segment ",
+            u64::from(index),
+            " doesn't fit its table",
+            messages,
+        ),
+        InitFault::DataOutOfBounds { index } => put_numbered(
+            "data segment ",
+            u64::from(index),
+            " doesn't fit its memory",
+            messages,
+        ),
+        InitFault::Trap { phase, kind } => put_trapped(phase, kind, messages),
+        InitFault::OutOfFuel => put_words("the fuel ran out", messages),
+        InitFault::ImportCalled { import } => put_numbered(
+            "the initialisation calls import ",
+            u64::from(import),
+            "",
+            messages,
+        ),
+        InitFault::FloatUsed { op } => put_float(op, messages),
+        InitFault::TableChanged => put_words("the initialisation changes a table", messages),
+        InitFault::TooManyFrames => put_words("more than 20000 frames", messages),
+        InitFault::TooManyFrameLocals => {
+            put_words("more than 4000000 locals in all frames", messages)
+        }
+        InitFault::Stuck => put_words("the machine is stuck", messages),
+        InitFault::NoMemory => put_words(NO_MEMORY, messages),
+    }
+}
+
 /// The words of the line, without the tool's name.
 fn put_outcome<E: Sink>(outcome: &Outcome, messages: &mut E) -> Result<(), Failed>
     ensures all { OnOk result
@@ -301,7 +418,6 @@ fn put_outcome<E: Sink>(outcome: &Outcome, messages: &mut E) -> Result<(), Faile
 {
     match outcome {
         Outcome::Done(report) => put_report(*report, messages),
-        Outcome::NotYet => put_words("this form of input isn't built yet", messages),
         Outcome::Usage(usage) => put_usage(*usage, messages),
         Outcome::InputFault => put_words("the input can't be read", messages),
         Outcome::InputTooLong => { put_words("the input is longer than 33554432 bytes", messages) }
@@ -309,6 +425,7 @@ fn put_outcome<E: Sink>(outcome: &Outcome, messages: &mut E) -> Result<(), Faile
         Outcome::Valid(fault) => put_valid(*fault, messages),
         Outcome::Profile(cause) => put_profile(*cause, messages),
         Outcome::Exports(fault) => put_exports(fault, messages),
+        Outcome::Init(fault) => put_init(*fault, messages),
         Outcome::OutputFault => put_words("the output can't be written", messages),
         Outcome::NoMemory => put_words(NO_MEMORY, messages),
     }

@@ -1,7 +1,7 @@
 //! The top call.
 
 ghost use Rattle.std.specs.Prelude.{◌≡◌, ◌≢◌, ◌+◌, ◌≤◌, ◌⊎◌, Ok, AllPairs};
-ghost use Rattle.wz_io.specs.World.{World, Said, name_of};
+ghost use Rattle.wz_io.specs.World.{World, Said};
 ghost use Rattle.wz_io.specs.Reading.{input_limit};
 ghost use Rattle.wz_words.specs.Settings.{settings_of};
 ghost use Rattle.wz_words.specs.Faults.{settings};
@@ -11,20 +11,20 @@ ghost use Rattle.wz_top.specs.Asked.{IsComplete};
 ghost use Rattle.wz_top.specs.Devices.{IsSmallSample};
 ghost use Rattle.wz_top.specs.Saying.{SaysAll, SaysFirst};
 ghost use Rattle.wz_top.specs.Texts.{text};
-ghost use Rattle.wz_top.specs.Words.{is_reported, wants_report, is_sample, output_name};
+ghost use Rattle.wz_top.specs.Words.{is_reported, wants_report, is_sample};
 
 use crate::Outcome;
-use crate::deliver::deliver;
 use crate::fetch::obtain;
 use crate::laws::bytes_ask_once;
+use crate::making::make;
 use crate::refusals::usage_outcome;
 use crate::texts::print_outcome;
-use crate::turn::turn;
+use crate::turn::accept;
 use std::alloc::Global;
 use wz_exports::laws::renames_differ;
-use wz_io::{FileName, Files, OpenFault, ReadAll, Sink};
+use wz_io::{Files, ReadAll, Sink};
 use wz_types::Text;
-use wz_words::{InputFrom, OutputTo, Settings, read_words};
+use wz_words::{InputFrom, Settings, read_words};
 
 /// Pre-initialises the module that the words name, writes the module that starts in the state
 /// that was reached, and puts the line that tells how the run ended.
@@ -113,16 +113,6 @@ fn is_sample(input: &InputFrom) -> bool
     }
 }
 
-/// The name of the output.
-fn file_name(output: &OutputTo) -> FileName<'_>
-    ensures { name_of result ≡ output_name output.now }
-{
-    match output {
-        OutputTo::Standard => FileName::Standard,
-        OutputTo::Path(path) => FileName::Path(path.as_str()),
-    }
-}
-
 /// The steps from opening the input to closing the output.
 fn carry_out<F: Files>(alloc: Global, settings: &Settings, files: &mut F) -> Outcome
     requires small { IsSmallSample settings.now.input }
@@ -139,13 +129,9 @@ fn carry_out<F: Files>(alloc: Global, settings: &Settings, files: &mut F) -> Out
         Err(ReadAll::TooLong) => return Outcome::InputTooLong,
         Err(ReadAll::NoMemory) => return Outcome::NoMemory,
     };
-    let (report, right) = match turn(alloc, &bytes, settings) {
-        Ok(made) => made,
+    let accepted = match accept(alloc, &bytes) {
+        Ok(accepted) => accepted,
         Err(refusal) => return refusal,
     };
-    match deliver(files, file_name(&settings.output), &right) {
-        Ok(()) => Outcome::Done(report),
-        Err(OpenFault::Failed) => Outcome::OutputFault,
-        Err(OpenFault::NoMemory) => Outcome::NoMemory,
-    }
+    make(alloc, &accepted, settings, files)
 }
