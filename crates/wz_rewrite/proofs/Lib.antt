@@ -10,3 +10,5 @@ pub mod SegmentLemmas
 pub mod PreparedLemmas
 pub mod LookupLemmas
 pub mod OrderLemmas
+pub mod ContentLemmas
+pub mod SpellLaws

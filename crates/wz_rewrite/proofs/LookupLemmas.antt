@@ -1,6 +1,6 @@
 -- Which contents the output's sections have, by their ids.
-use Rattle.std.proofs.Common.{◌≡◌, ℕ, Bool, true, false, List, [], ◌∷◌, ◌++◌, Option, Some, None, sym, ap, subst, ◌∙◌, refl, inl, inr}
-use Rattle.std.specs.Prelude.{◌==◌, ◌&&◌, not, if◌then◌else◌, option_map, is_none}
+use Rattle.std.proofs.Common.{◌≡◌, ℕ, true, false, List, [], ◌∷◌, ◌++◌, Option, Some, None, ap, ◌∙◌, refl, inl, inr}
+use Rattle.std.specs.Prelude.{◌==◌, if◌then◌else◌, option_map}
 use Rattle.std.specs.List.{flat_map}
 use Rattle.std.proofs.lemmas.Bool.{cases_Bool, eqb-true}
 use Rattle.wz_module.specs.Sections.{Section, payload_of}
@@ -9,8 +9,7 @@ use Rattle.wz_snapshot.specs.Recorded.{has_no_items}
 use Rattle.wz_encode.specs.Elements.{elements_text}
 use Rattle.wz_rewrite.specs.OutputState.{OutputState}
 use Rattle.wz_rewrite.specs.Slots.{filled_slots}
-use Rattle.wz_rewrite.specs.Sections.{datas_text, output_payload, lacks, elements_before, brings_elements, new_elements, brings_datas, new_datas, section_with, sections_for, output_sections}
-use Rattle.wz_rewrite.proofs.SectionLemmas.{none_of}
+use Rattle.wz_rewrite.specs.Sections.{datas_text, output_payload, lacks, elements_before, brings_elements, new_elements, brings_datas, new_datas, section_with, sections_for}
 
 -- the first of two that is there
 abbrev pub either : {X : Type 0} → Option X → Option X → Option X

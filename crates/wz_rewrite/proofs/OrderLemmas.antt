@@ -1,12 +1,11 @@
 -- The output's sections are in their order, each at most once, as the input's are.
-use Rattle.std.proofs.Common.{◌≡◌, ◌≢◌, ℕ, ◌+◌, ◌<◌, ◌≤◌, Bool, true, false, List, [], ◌∷◌, ◌++◌, Option, Some, None, sym, ap, subst, ◌∙◌, refl, inl, inr, arith, append_assoc, lit<}
-use Rattle.std.specs.Prelude.{◌⊎◌, ◌==◌, ◌&&◌, not, nat_lt, if◌then◌else◌, is_none}
+use Rattle.std.proofs.Common.{◌≡◌, ◌≢◌, ℕ, ◌<◌, ◌≤◌, Bool, true, false, List, [], ◌∷◌, ◌++◌, Option, Some, None, sym, ap, subst, ◌∙◌, refl, inl, inr, arith, append_assoc, lit<}
+use Rattle.std.specs.Prelude.{◌⊎◌, ◌==◌, ◌&&◌, nat_lt, if◌then◌else◌}
 use Rattle.std.specs.List.{All, flat_map}
 use Rattle.std.proofs.lemmas.Bool.{cases_Bool, eqb-true, eqb-false, ltb-true}
-use Rattle.std.proofs.lemmas.List.Elements.{All-nil, All-cons, All-head, All-tail, All-weaker}
+use Rattle.std.proofs.lemmas.List.Elements.{All-nil, All-cons, All-head, All-tail}
 use Rattle.wz_module.specs.Sections.{Section, section_rank, ranks_of, Rises, payload_of}
 use Rattle.wz_module.specs.Module.{Module}
-use Rattle.wz_snapshot.specs.Recorded.{has_no_items}
 use Rattle.wz_rewrite.specs.OutputState.{OutputState}
 use Rattle.wz_rewrite.specs.Sections.{output_payload, lacks, elements_before, brings_elements, new_elements, brings_datas, new_datas, section_with, sections_for, output_sections}
 use Rattle.wz_rewrite.specs.Laws.{AreInOrder}
@@ -42,31 +41,31 @@ rank_of id = elim (cases_Bool (id == 10)) [
       let r : section_rank id ≡ 11 = rw e refl in
       rank_with id 11 r (omega arith) (λ x. absurd (omega (arith, x))) (λ x. absurd (omega (arith, x))) (λ x. absurd (omega (arith, x)))
   | inr e10 ↦ elim (cases_Bool (id == 11)) [
+    | inl e ↦
+        let r : section_rank id ≡ 12 = rw (e10, e) refl in
+        rank_with id 12 r (omega arith) (λ x. absurd (omega (arith, x))) (λ x. absurd (omega (arith, x))) (λ x. eqb-true id 11 e)
+    | inr e11 ↦ elim (cases_Bool (id == 12)) [
       | inl e ↦
-          let r : section_rank id ≡ 12 = rw (e10, e) refl in
-          rank_with id 12 r (omega arith) (λ x. absurd (omega (arith, x))) (λ x. absurd (omega (arith, x))) (λ x. eqb-true id 11 e)
-      | inr e11 ↦ elim (cases_Bool (id == 12)) [
-          | inl e ↦
-              let r : section_rank id ≡ 10 = rw (e10, e11, e) refl in
-              rank_with id 10 r (omega arith) (λ x. absurd (omega (arith, x))) (λ x. eqb-true id 12 e) (λ x. absurd (omega (arith, x)))
-          | inr e12 ↦ elim (cases_Bool (nat_lt id 10)) [
-              | inl e ↦
-                  let r : section_rank id ≡ id = rw (e10, e11, e12, e) refl in
-                  let below = ltb-true id 10 e in
-                  rank_with id id r (omega (arith, below)) (λ x. x) (λ x. absurd (omega (arith, x, below))) (λ x. absurd (omega (arith, x, below)))
-              | inr e ↦
-                  let r : section_rank id ≡ 0 = rw (e10, e11, e12, e) refl in
-                  rank_with id 0 r (omega arith) (λ x. absurd (omega (arith, x))) (λ x. absurd (omega (arith, x))) (λ x. absurd (omega (arith, x)))
-            ]
-        ]
+          let r : section_rank id ≡ 10 = rw (e10, e11, e) refl in
+          rank_with id 10 r (omega arith) (λ x. absurd (omega (arith, x))) (λ x. eqb-true id 12 e) (λ x. absurd (omega (arith, x)))
+      | inr e12 ↦ elim (cases_Bool (nat_lt id 10)) [
+        | inl e ↦
+            let r : section_rank id ≡ id = rw (e10, e11, e12, e) refl in
+            let below = ltb-true id 10 e in
+            rank_with id id r (omega (arith, below)) (λ x. x) (λ x. absurd (omega (arith, x, below))) (λ x. absurd (omega (arith, x, below)))
+        | inr e ↦
+            let r : section_rank id ≡ 0 = rw (e10, e11, e12, e) refl in
+            rank_with id 0 r (omega arith) (λ x. absurd (omega (arith, x))) (λ x. absurd (omega (arith, x))) (λ x. absurd (omega (arith, x)))
+      ]
     ]
+  ]
 ]
 
 rises_from : (low other : ℕ) (ranks : List ℕ) → other ≤ low → Rises low ranks → Rises other ranks
 rises_from low other [] below h = tt
 rises_from low other (n ∷ ranks) below h = (omega (arith, below, h.0), h.1)
 
-none_has : (k : ℕ) (sections : List Section) → payload_of k sections ≡ None → All (λ s. s.id ≢ k) sections
+pub none_has : (k : ℕ) (sections : List Section) → payload_of k sections ≡ None → All (λ s. s.id ≢ k) sections
 none_has k [] none = All-nil (λ (s : Section). s.id ≢ k)
 none_has k (s ∷ sections) none = elim (cases_Bool (s.id == k)) [
   | inl e ↦ let there : Some s.payload ≡ None = rw e at none in absurd cc
@@ -119,24 +118,24 @@ module _ (m : Module) (o : OutputState) where
                     | inr at ↦ let r : section_rank next ≡ 10 = ap section_rank at.0 in absurd (omega (arith, h, rank, r))
                   ]
               | inr d ↦ elim (brings_at next b) [
-                  | inl at ↦
-                      let r : section_rank next ≡ 11 = ap section_rank at.0 in
-                      let not_ten : section_rank id ≢ 10 = λ e. suits.count at.1 (own.ten e) in
-                      let low : section_rank id < 9 = omega (arith, h, r, not_nine, not_ten) in
-                      rw (b, d) low
-                  | inr at ↦
-                      let r : section_rank next ≡ 10 = ap section_rank at.0 in
-                      let low : section_rank id < 9 = omega (arith, h, r, not_nine) in
-                      rw (b, d) low
-                ]
+                | inl at ↦
+                    let r : section_rank next ≡ 11 = ap section_rank at.0 in
+                    let not_ten : section_rank id ≢ 10 = λ e. suits.count at.1 (own.ten e) in
+                    let low : section_rank id < 9 = omega (arith, h, r, not_nine, not_ten) in
+                    rw (b, d) low
+                | inr at ↦
+                    let r : section_rank next ≡ 10 = ap section_rank at.0 in
+                    let low : section_rank id < 9 = omega (arith, h, r, not_nine) in
+                    rw (b, d) low
+              ]
             ]
         | inr b ↦ elim (cases_Bool (brings_datas m o id)) [
-            | inl d ↦
-                let rank : section_rank id ≡ 11 = ap section_rank (brings_behind id d) in
-                let top : section_rank next ≡ 12 = omega (arith, h, rank, other.most) in
-                absurd (suits_next.datas id d (other.twelve top))
-            | inr d ↦ rw (b, d) h
-          ]
+          | inl d ↦
+              let rank : section_rank id ≡ 11 = ap section_rank (brings_behind id d) in
+              let top : section_rank next ≡ 12 = omega (arith, h, rank, other.most) in
+              absurd (suits_next.datas id d (other.twelve top))
+          | inr d ↦ rw (b, d) h
+        ]
       ]
 
   -- ---- the ranks in one place

@@ -1,16 +1,15 @@
 -- The segments of an element payload, and the numbers of those that were dropped.
-use Rattle.std.proofs.Common.{◌≡◌, ℕ, zero, suc, ◌+◌, ◌-◌, ◌^◌, ◌<◌, ◌≤◌, Bool, true, false, List, [], ◌∷◌, ◌++◌, length, take, slice_index_or, Option, Some, None, sym, ap, subst, ◌∙◌, refl, inl, inr, arith, append_assoc}
+use Rattle.std.proofs.Common.{◌≡◌, ℕ, zero, suc, ◌+◌, ◌-◌, ◌^◌, ◌<◌, ◌≤◌, Bool, List, [], ◌∷◌, ◌++◌, length, take, Option, Some, sym, ap, subst, ◌∙◌, refl, inl, inr, arith}
 use Rattle.std.specs.List.{All, AllZip, concat}
 use Rattle.std.specs.List.Sorted.{IsNonDecreasing}
 use Rattle.std.proofs.lemmas.Bool.{cases_Bool}
 use Rattle.std.proofs.lemmas.List.{length-append, take_at}
 use Rattle.std.proofs.lemmas.List.Elements.{All-nil, All-cons, All-weaker}
-use Rattle.wz_bytes.specs.Unsigned.{unsigned_at}
 use Rattle.wz_bytes.specs.Forms.{AreItems}
 use Rattle.wz_bytes.proofs.UnsignedLaws.{unsigned_exact, unsigned_below}
 use Rattle.wz_module.specs.Elements.{Elem}
 use Rattle.wz_module.specs.declared.items.Span.{Span}
-use Rattle.wz_decode_sections.specs.ElementSection.{IsElem, IsElementSection, elem_at}
+use Rattle.wz_decode_sections.specs.ElementSection.{IsElem, IsElementSection}
 use Rattle.wz_decode_sections.specs.Spans.{AreSpans, HasSpans}
 use Rattle.wz_decode_sections.proofs.SegmentLaws.{elem_exact}
 use Rattle.wz_encode.specs.Elements.{all_covered, elements_by_spans, elements_text}

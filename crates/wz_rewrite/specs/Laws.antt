@@ -54,6 +54,14 @@ AreInOrder sections = Rises 0 (ranks_of sections)
 abbrev pub SpellsElements : Module → Type 0
 SpellsElements m = All (λ s. s.id ≡ 9 → IsElementSection s.payload m.elements) m.sections
 
+-- where bytes spell a module, its element section spells its element segments
+abbrev pub InputSpellsElements : Type 0
+InputSpellsElements = (input : List ℕ) (m : Module) → Spells input m → SpellsElements m
+
+-- and its sections are in order
+abbrev pub InputIsInOrder : Type 0
+InputIsInOrder = (input : List ℕ) (m : Module) → Spells input m → AreInOrder m.sections
+
 -- the pieces, with each range read from its memory, are the output
 abbrev pub PiecesAreOutput : Type 0
 PiecesAreOutput = (m : Module) (o : OutputState) → HasRanges o.memories o.chosen → pieces_text o.memories (output_pieces m o) ≡ output_bytes m o

@@ -2,6 +2,7 @@
 //! body is empty.
 
 ghost use Rattle.wz_rewrite.specs.Laws.{PiecesAreOutput, PiecesAreChosen, PiecesAreKept};
+ghost use Rattle.wz_rewrite.specs.Laws.{OutputSpells, InputSpellsElements, InputIsInOrder};
 
 /// The pieces, with each range read from its memory, are the output's bytes; their ranges are the
 /// chosen ones; and what they have of the input is just the contents that stay.
@@ -9,4 +10,16 @@ pub fn pieces_are_output()
     ensures bytes { PiecesAreOutput }
     ensures ranges { PiecesAreChosen }
     ensures kept { PiecesAreKept }
+{}
+
+/// The output as bytes spells the output as a module.
+pub fn output_is_spelled()
+    ensures { OutputSpells }
+{}
+
+/// A module that was read is what `prepare` asks for: its element section spells its element
+/// segments, and its sections are in order.
+pub fn input_is_spelled()
+    ensures elements { InputSpellsElements }
+    ensures order { InputIsInOrder }
 {}
