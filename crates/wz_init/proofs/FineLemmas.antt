@@ -38,7 +38,7 @@ use Rattle.wz_bulk.specs.TableEffects.{entry_or_trap}
 use Rattle.wz_bulk.specs.MemoryEffects.{bytes_effect}
 use Rattle.wz_machine.specs.declared.questions.HostTarget.TheVariants as target
 use Rattle.wz_machine.specs.State.{FunctionBody, OwnBody, ImportedBody, NoBody, Callable, callable_at, FunctionInstance, State}
-use Rattle.wz_machine.specs.Terms.{Inside, Innermost, InLabel, InFrame, Term, Frame, BareValues, AskHost}
+use Rattle.wz_machine.specs.Terms.{Inside, Innermost, InLabel, InFrame, Term, Frame, BareValues, Question, AskFloat, AskMemory, AskTable, AskHost}
 use Rattle.wz_machine.specs.Outcomes.{Effect, Yields, Poses, Fails, HasNoRule, Outcome, Does, SetsLocals, Jumps, Quits, Calls, Reduct, Goes, Finishes, Branches, Returns, Pauses, Traps, Sticks, Answer, Next, Done, Trap, Ask, Stuck}
 use Rattle.wz_machine.specs.NumericSteps.{result_effect, operation_step}
 use Rattle.wz_machine.specs.ReferenceSteps.{ref_is_null_step, ref_func_step}
@@ -70,9 +70,16 @@ IsFine s (GrowMemory index by) = ⊥
 IsFine s (EmptyElement index) = Unit {0}
 IsFine s (EmptyData index) = Unit {0}
 
+-- growth is asked of a memory that is there, within its limits
+abbrev pub IsAsked : State → Question → Type 0
+IsAsked s (AskFloat o operands) = Unit {0}
+IsAsked s (AskMemory index by) = (memory : Memory) × (slice_get s.memories index ≡ Some memory) × (may_grow (pages_of memory) memory.maximum by ≡ true)
+IsAsked s (AskTable index by reference) = Unit {0}
+IsAsked s (AskHost target arguments type) = Unit {0}
+
 abbrev pub EffectFine : State → Effect → Type 0
 EffectFine s (Yields change values) = IsFine s change × AreOwn values
-EffectFine s (Poses question values) = AreOwn values
+EffectFine s (Poses question values) = IsAsked s question × AreOwn values
 EffectFine s (Fails kind) = Unit {0}
 EffectFine s HasNoRule = Unit {0}
 
@@ -97,7 +104,7 @@ ReductFine s (Goes change locals inside) = IsFine s change × AreOwn locals × I
 ReductFine s (Finishes values) = AreOwn values
 ReductFine s (Branches label values) = AreOwn values
 ReductFine s (Returns values) = AreOwn values
-ReductFine s (Pauses question inside) = InsideOwn inside
+ReductFine s (Pauses question inside) = IsAsked s question × InsideOwn inside
 ReductFine s (Traps kind) = Unit {0}
 ReductFine s Sticks = Unit {0}
 
@@ -105,7 +112,7 @@ abbrev pub AnswerFine : State → Answer → Type 0
 AnswerFine s (Next change term) = IsFine s change × TermOwn term
 AnswerFine s (Done values) = Unit {0}
 AnswerFine s (Trap kind) = Unit {0}
-AnswerFine s (Ask question rest) = TermOwn rest
+AnswerFine s (Ask question rest) = IsAsked s question × TermOwn rest
 AnswerFine s Stuck = Unit {0}
 
 -- ---- lists of values
@@ -206,7 +213,7 @@ number_own o operands = meant_own (meaning_of o) operands (λ a b. numbers_own o
 result_fine : (s : State) (o : NumOp) (operands values : List Value) → AreOwn values → (a : NumAnswer) → AnswerOwn a → EffectFine s (result_effect o operands values a)
 result_fine s o operands values h (answer.Gives result) k = (tt, (k, h))
 result_fine s o operands values h (answer.Trap kind) k = tt
-result_fine s o operands values h answer.Ask k = h
+result_fine s o operands values h answer.Ask k = (tt, h)
 result_fine s o operands values h answer.Stuck k = tt
 
 operation_fine : (s : State) (o : NumOp) (second : Option ValType) (values : List Value) → AreOwn values → EffectFine s (operation_step o second values)
@@ -348,10 +355,15 @@ memory_size_fine : (s : State) (o : Option Memory) (values : List Value) → Are
 memory_size_fine s None values h = tt
 memory_size_fine s (Some memory) values h = (tt, (tt, h))
 
-memory_grow_fine : (s : State) (index : ℕ) (o : Option Memory) (values : List Value) → AreOwn values → EffectFine s (memory_grow_step index o values)
-memory_grow_fine s index (Some memory) (I32 by ∷ values) h =
-    if-both (λ (e : Effect). EffectFine s e) (may_grow (pages_of memory) memory.maximum by) (Poses _ values) (Yields Nothing (minus_one ∷ values)) h.1 (tt, (tt, h.1))
-memory_grow_fine s index o values h = tt
+memory_grow_fine : (s : State) (index : ℕ) (o : Option Memory) → slice_get s.memories index ≡ o → (values : List Value) → AreOwn values
+    → EffectFine s (memory_grow_step index o values)
+memory_grow_fine s index (Some memory) e (I32 by ∷ values) h = test (may_grow (pages_of memory) memory.maximum by) refl
+  where
+    test : (b : Bool) → may_grow (pages_of memory) memory.maximum by ≡ b
+      → EffectFine s (if b then Poses (AskMemory index by) values else Yields Nothing (minus_one ∷ values))
+    test true fits = ((memory, e, fits), h.1)
+    test false fits = (tt, (tt, h.1))
+memory_grow_fine s index o e values h = tt
 
 -- a range is written where it is within the memory
 range_fine : (s : State) (index to : ℕ) (bytes : List ℕ) (memory : Memory) (count : ℕ) (more : Bool) (values : List Value) → slice_get s.memories index ≡ Some memory
@@ -428,7 +440,7 @@ br_table_fine s labels last values h = tt
 invocation_fine : (s : State) (type : FunctionType) (body : FunctionBody) (arguments values : List Value) → AreOwn arguments → AreOwn values
     → OutcomeFine s (invocation type body arguments values)
 invocation_fine s type (OwnBody locals code) arguments values h k = (own_append arguments (zeros_of locals) h (own_zeros locals), k)
-invocation_fine s type (ImportedBody number) arguments values h k = k
+invocation_fine s type (ImportedBody number) arguments values h k = (tt, k)
 invocation_fine s type NoBody arguments values h k = tt
 
 with_arguments_fine : (s : State) (type : FunctionType) (outcome : List Value → List Value → Outcome)
@@ -452,7 +464,7 @@ expected_fine s type (Some function) values h =
     tt
 
 host_fine : (s : State) (type : FunctionType) (id : ℕ) (values : List Value) → AreOwn values → OutcomeFine s (host_call type id values)
-host_fine s type id values h = with_arguments_fine s type (λ arguments below. Does (Poses (AskHost (target.Foreign id) arguments type) below)) (λ arguments below a b. b) values h
+host_fine s type id values h = with_arguments_fine s type (λ arguments below. Does (Poses (AskHost (target.Foreign id) arguments type) below)) (λ arguments below a b. (tt, b)) values h
 
 foreign_fine : (s : State) (type : FunctionType) (id : ℕ) (o : Option FunctionType) (values : List Value) → AreOwn values → OutcomeFine s (foreign_call type id o values)
 foreign_fine s type id None values h = tt
@@ -500,7 +512,7 @@ instr_fine s locals (TableSize table) values e h l k = table_size_fine s (slice_
 instr_fine s locals (ElemDrop segment) values e h l k = elem_drop_fine s segment (slice_get s.elements segment) values k
 instr_fine s locals (Access o align offset memory) values e h l k = access_fine s (shape_of o) offset memory values k
 instr_fine s locals (MemorySize memory) values e h l k = memory_size_fine s (slice_get s.memories memory) values k
-instr_fine s locals (MemoryGrow memory) values e h l k = memory_grow_fine s memory (slice_get s.memories memory) values k
+instr_fine s locals (MemoryGrow memory) values e h l k = memory_grow_fine s memory (slice_get s.memories memory) refl values k
 instr_fine s locals (MemoryFill memory) values e h l k = fill_fine s memory (slice_get s.memories memory) refl values k
 instr_fine s locals (MemoryCopy to from) values e h l k = copy_fine s to (slice_get s.memories to) refl (slice_get s.memories from) values k
 instr_fine s locals (MemoryInit segment memory) values e h l k = init_fine s memory (slice_get s.memories memory) refl (slice_get s.datas segment) values k
@@ -574,7 +586,7 @@ label_fine s locals below count again rest (Branches zero values) l b h =
     (tt, l, arrival_own below count again rest (take count values) b (own_take count values h)) tt
 label_fine s locals below count again rest (Branches (suc label) values) l b h = h
 label_fine s locals below count again rest (Returns values) l b h = h
-label_fine s locals below count again rest (Pauses question inside) l b h = (b, h)
+label_fine s locals below count again rest (Pauses question inside) l b h = (h.0, (b, h.1))
 label_fine s locals below count again rest (Traps kind) l b h = tt
 label_fine s locals below count again rest Sticks l b h = tt
 
@@ -592,7 +604,7 @@ frame_fine s locals below count own rest (Finishes values) l b o h =
 frame_fine s locals below count own rest (Branches zero values) l b o h = left_fine s locals below count rest values l b h
 frame_fine s locals below count own rest (Branches (suc label) values) l b o h = tt
 frame_fine s locals below count own rest (Returns values) l b o h = left_fine s locals below count rest values l b h
-frame_fine s locals below count own rest (Pauses question inside) l b o h = (b, o, h)
+frame_fine s locals below count own rest (Pauses question inside) l b o h = (h.0, (b, o, h.1))
 frame_fine s locals below count own rest (Traps kind) l b o h = tt
 frame_fine s locals below count own rest Sticks l b o h = tt
 
@@ -615,7 +627,7 @@ answer_fine s count locals (Finishes values) l h =
 answer_fine s count locals (Branches zero values) l h = results_fine s count values
 answer_fine s count locals (Branches (suc label) values) l h = tt
 answer_fine s count locals (Returns values) l h = results_fine s count values
-answer_fine s count locals (Pauses question inside) l h = (l, h)
+answer_fine s count locals (Pauses question inside) l h = (h.0, (l, h.1))
 answer_fine s count locals (Traps kind) l h = tt
 answer_fine s count locals Sticks l h = tt
 

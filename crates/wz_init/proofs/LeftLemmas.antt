@@ -224,7 +224,7 @@ answer_left was first on last fuel ticks left made lead s (Next change term) h k
 answer_left was first on last fuel ticks left made lead s (Done values) h k e =
     let same : s ≡ last = cc e in subst (λ (t : State). IsLeftOf was first t) same h
 answer_left was first on last fuel ticks left made lead s (Trap kind) h k e = absurd (cc e)
-answer_left was first on last fuel ticks left made lead s (Ask question rest) h k e = question_left was first on last fuel ticks lead s rest question h k e
+answer_left was first on last fuel ticks left made lead s (Ask question rest) h k e = question_left was first on last fuel ticks lead s rest question h k.1 e
 answer_left was first on last fuel ticks left made lead s Stuck h k e = absurd (cc e)
 
 first_left : (was first : State) (left made : ℕ) (s : State) (term : Term) (last : State) (fuel ticks : ℕ)
@@ -285,3 +285,26 @@ phases_left was first [] s fuel made last ticks h e = let same : s ≡ last = cc
 phases_left was first (now ∷ later) s fuel made last ticks h e =
     phase_left was first now.0 (λ new left made. phases_run later new left made) last ticks (run s now.1 fuel made)
     (λ new left ticks_so_far ran e. phases_left was first later new left ticks_so_far last ticks (run_left was first s now.1 fuel made new left ticks_so_far h ran) e) e
+
+-- ---- what is the instance's own stays so
+
+own_globals_on : (s : State) (change : Change) → IsFine s change → HoldsOwn s → (index : ℕ) (global : Global) → slice_get (applied change s).globals index ≡ Some global
+    → IsOwn global.content
+own_globals_on s Nothing f own i g here = own.globals i g here
+own_globals_on s (SetGlobal index value) f own i g here = by (get-altered (λ global. with_content value global) s.globals index i g here)
+  where
+    by : (x : Global) × (slice_get s.globals i ≡ Some x) × ((x ≡ g) ⊎ ((index ≡ i) × (with_content value x ≡ g))) → IsOwn g.content
+    by (x, is, inl same) = own.globals i g (is ∙ ap Some same)
+    by (x, is, inr same) = subst (λ (y : Global). IsOwn y.content) same.1 f.0
+own_globals_on s (WriteTable index at entries) f own i g here = absurd f
+own_globals_on s (WriteMemory index at bytes) f own i g here = own.globals i g here
+own_globals_on s (GrowTable index by reference) f own i g here = absurd f
+own_globals_on s (GrowMemory index by) f own i g here = absurd f
+own_globals_on s (EmptyElement index) f own i g here = own.globals i g here
+own_globals_on s (EmptyData index) f own i g here = own.globals i g here
+
+pub own_on : (s : State) (change : Change) → HoldsOwn s → IsFine s change → HoldsOwn (applied change s)
+own_on s change own f = record {
+  globals = λ i g here. own_globals_on s change f own i g here;
+  tables = subst (λ (ts : List Table). (index : ℕ) (table : Table) → slice_get ts index ≡ Some table → AreOwnReferences table.entries) (sym (same_tables s change f)) own.tables;
+}
