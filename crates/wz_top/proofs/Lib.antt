@@ -1,3 +1,4 @@
+pub mod MakingLemmas
 pub mod ReachLemmas
 pub mod TurnLemmas
 pub mod SampleLaws

@@ -5,11 +5,13 @@ use Rattle.std.specs.List.{All}
 use Rattle.std.proofs.Math.ListN.{length-map}
 use Rattle.std.proofs.lemmas.List.Elements.{All-nil, All-cons, All-head, All-tail}
 use Rattle.std.proofs.lemmas.List.Sums.{sum-map}
+use Rattle.wz_types.specs.declared.types.MemType.{MemType}
 use Rattle.wz_types.specs.FunctionType.{FunctionType}
 use Rattle.wz_module.specs.declared.items.ImportKind.{ImportKind}
 use Rattle.wz_module.specs.declared.items.ImportKind.TheVariants as kind
 use Rattle.wz_module.specs.Imports.{Import}
 use Rattle.wz_module.specs.Functions.{BodyTree}
+use Rattle.wz_module.specs.Globals.{GlobalDef}
 use Rattle.wz_module.specs.Sections.{payload_of}
 use Rattle.wz_module.specs.Module.{Module}
 use Rattle.wz_decode_sections.specs.CodeSection.{IsCodeSection}
@@ -22,7 +24,7 @@ use Rattle.wz_valid.specs.Validity.{IsValid}
 use Rattle.wz_valid.specs.Profile.{IsInProfile}
 use Rattle.wz_store.specs.declared.function.Function.{Function}
 use Rattle.wz_store.specs.declared.function.Function.TheVariants as stored
-use Rattle.wz_store.specs.State.{Memory}
+use Rattle.wz_store.specs.State.{Global, Memory, pages_of}
 use Rattle.wz_store.specs.Made.{StoreState}
 use Rattle.wz_snapshot.specs.declared.segment.ChosenSegment.{ChosenSegment}
 use Rattle.wz_snapshot.specs.Recorded.{chosen_segments, pages_together, recorded}
@@ -99,7 +101,7 @@ stopped_is_not_reached phase later (Returned now fuel made) s ticks stops e = ab
 stopped_is_not_reached phase later (Stopped stop) s ticks stops e = absurd cc
 
 some_phase : (m : Module) (order : RunOrder) → 0 < length (phases m order)
-some_phase m order = ?
+some_phase m order = simp length-append (omega arith)
 
 phases_need_own : (ps : List (Phase × ℕ)) (first s : State) (fuel made ticks : ℕ) → 0 < length ps
     → ((function : ℕ) → Stops (run first function fuel made)) → phases_run ps first fuel made ≡ Reached s ticks → ⊥
@@ -136,7 +138,15 @@ some_payload None bodies holds some = absurd (let none : length bodies ≡ 0 = a
 -- ---- memories
 
 one_memory : (m : Module) → IsValid m → length m.memories ≤ 1
-one_memory m valid = ?
+one_memory m valid = by m.memories refl where
+  too_many : 1 < length m.memories → ⊥
+  too_many many =
+      let only = value_in (λ (memory : MemType). IsMemoryOk memory × IsOnlyMemory m 1) (slice_get m.memories 1) (valid part.Memory 1 many) in
+      absurd (let other = only.2.1 in omega (arith, other))
+  by : (memories : List MemType) → m.memories ≡ memories → length m.memories ≤ 1
+  by [] e = subst (λ (ms : List MemType). length ms ≤ 1) (sym e) (omega arith)
+  by (one ∷ []) e = subst (λ (ms : List MemType). length ms ≤ 1) (sym e) (omega arith)
+  by (one ∷ other ∷ more) e = absurd (too_many (subst (λ (ms : List MemType). 1 < length ms) (sym e) (omega arith)))
 
 ranges_in : (memories : List Memory) (segments : List ChosenSegment) → All (λ segment. IsRangeOf memories segment) segments → HasRanges memories segments
 ranges_in memories [] all = All-nil _
@@ -169,13 +179,16 @@ can_write fresh_is run_is few_are ranges_are spells rises s bytes m k store tick
         = ap (λ (p : LastingParts). length p.memory_maxima) is.module_parts in
     let memories : length store.memories ≡ length m.memories
         = sym (length-map store.memories (λ (x : Memory). x.maximum)) ∙ maxima ∙ length-map m.memories (λ x. x.limits.max) in
+    let kinds : length (map (λ (g : Global). g.type) store.globals) ≡ length (map (λ (g : GlobalDef). g.kind) m.globals)
+        = ap (λ (p : LastingParts). length p.globals) is.module_parts in
     let one = one_memory m a.valid in
     let few : length store.memories ≤ 100 = omega (arith, memories, one) in
     let own = has_functions fresh_is m _ (state_in m store) ticks a.valid a.inside run.reached in
     record {
       few = few;
       small = is.left.pages;
-      globals = ?;
+      globals = sym (length-map m.globals (λ (g : GlobalDef). g.kind)) ∙ sym kinds ∙ length-map store.globals (λ (g : Global). g.type)
+          ∙ sym (length-map store.globals (λ (g : Global). g.content));
       code = some_payload (payload_of 10 m.sections) m.bodies a.spelled.parts.bodies (let agree = a.spelled.counts.bodies in omega (arith, own, agree));
       elements = spells bytes m a.spelled;
       order = rises bytes m a.spelled;
@@ -184,4 +197,4 @@ can_write fresh_is run_is few_are ranges_are spells rises s bytes m k store tick
     }
 
 pub pages_fit : (store : StoreState) → pages_together store.memories ≤ 16384 → sum (recorded store).pages < 2 ^ 32
-pages_fit store small = ?
+pages_fit store small = let together = sum-map pages_of store.memories in omega (arith, together, small)

@@ -156,14 +156,14 @@ module _ (one : OneVerdict) (s : Settings) (before mid now : World) (bytes right
 
 module _ (one : OneVerdict) (s : Settings) (before mid now : World) (bytes : List ℕ) (here : IsInputFrom before.told s.input bytes)
     (short : length bytes ≤ input_limit) (read : OnlyRead before mid) (from : IsReadFrom (input_name s.input) before mid) where
-  stays_so : (outcome : Outcome) → now ≡ mid → Ran outcome (Ok s) before mid → Ran outcome (Ok s) before now
-  stays_so outcome same ran = subst (λ (w : World). Ran outcome (Ok s) before w) (sym same) ran
+  stays_so : (now : World) (outcome : Outcome) → now ≡ mid → Ran outcome (Ok s) before mid → Ran outcome (Ok s) before now
+  stays_so now outcome same ran = subst (λ (w : World). Ran outcome (Ok s) before w) (sym same) ran
 
-  pub ran_made : (outcome : Outcome) → IsMade s bytes outcome mid now → Ran outcome (Ok s) before now
-  ran_made (Done report) h = ran_done one s before mid now bytes h.0 report here short h.1 read h.2
-  ran_made OutputFault h = ran_output_fault one s before mid now bytes h.1 h.0 here short h.2 read h.4 h.3
-  ran_made NoMemory h = stays_so NoMemory h (ran_no_memory one s before mid read)
-  ran_made outcome h = stays_so outcome h.1 (ran_refused one s before mid bytes outcome here short h.0 read from)
+  pub ran_made : (now : World) (outcome : Outcome) → IsMade s bytes outcome mid now → Ran outcome (Ok s) before now
+  ran_made now (Done report) h = ran_done one s before mid now bytes h.0 report here short h.1 read h.2
+  ran_made now OutputFault h = ran_output_fault one s before mid now bytes h.1 h.0 here short h.2 read h.4 h.3
+  ran_made now NoMemory h = stays_so now NoMemory h (ran_no_memory one s before mid read)
+  ran_made now outcome h = stays_so now outcome h.1 (ran_refused one s before mid bytes outcome here short h.0 read from)
 
 -- ---- completeness
 

@@ -25,9 +25,9 @@ use wz_store::Reached;
 use wz_words::{OutputTo, Settings};
 
 /// Keeps the exports, runs the module and writes the output.
-pub fn make<'m, F: Files>(
+pub fn make<F: Files>(
     alloc: Global,
-    accepted: &'m Module<'m>,
+    accepted: &Module<'_>,
     settings: &Settings,
     files: &mut F,
 ) -> Outcome
@@ -71,7 +71,6 @@ fn write_out<F: Files>(
 {
     // For the proof: what a run reaches is within the limits of what is recorded and written.
     wz_init::laws::reached_states();
-    wz_valid::laws::valid_functions();
     wz_snapshot::laws::chosen_segments();
     wz_rewrite::laws::input_is_spelled();
     let recorded = match snapshot(alloc, reached) {
@@ -83,7 +82,8 @@ fn write_out<F: Files>(
         Err(AllocError) => return Outcome::NoMemory,
     };
     let pages = pages_together(&recorded);
-    let segments = recorded.segments().len() as u32;
+    let chosen = recorded.segments();
+    let segments = chosen.len() as u32;
     match deliver(files, file_name(&settings.output), &mut output, reached) {
         Ok(bytes) => Outcome::Done(Report {
             ticks: reached.ticks,

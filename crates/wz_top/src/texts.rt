@@ -380,13 +380,13 @@ fn put_init<E: Sink>(fault: InitFault, messages: &mut E) -> Result<(), Failed>
     match fault {
         InitFault::ElementOutOfBounds { index } => put_numbered(
             "element segment ",
-            u64::from(index),
+            index as u64,
             " doesn't fit its table",
             messages,
         ),
         InitFault::DataOutOfBounds { index } => put_numbered(
             "data segment ",
-            u64::from(index),
+            index as u64,
             " doesn't fit its memory",
             messages,
         ),
@@ -394,7 +394,7 @@ fn put_init<E: Sink>(fault: InitFault, messages: &mut E) -> Result<(), Failed>
         InitFault::OutOfFuel => put_words("the fuel ran out", messages),
         InitFault::ImportCalled { import } => put_numbered(
             "the initialisation calls import ",
-            u64::from(import),
+            import as u64,
             "",
             messages,
         ),
