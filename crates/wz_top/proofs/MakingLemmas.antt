@@ -35,8 +35,10 @@ pub report_is : (s : State) (ticks pages segments count : ℕ) (right : List ℕ
 report_is s ticks pages segments count right pages-are segments-are count-is = first ∙ second ∙ third where
   first : made ticks pages segments count ≡ made ticks (pages_together s.memories) segments count
   first = ap (λ (n : ℕ). made ticks n segments count) pages-are
+
   second : made ticks (pages_together s.memories) segments count ≡ made ticks (pages_together s.memories) (length (chosen_segments s.memories)) count
   second = ap (λ (n : ℕ). made ticks (pages_together s.memories) n count) segments-are
+
   third : made ticks (pages_together s.memories) (length (chosen_segments s.memories)) count ≡ report_of s ticks right
   third = ap (λ (n : ℕ). made ticks (pages_together s.memories) (length (chosen_segments s.memories)) n) count-is
 
@@ -45,7 +47,7 @@ module _ (s : Settings) (bytes : List ℕ) (m : Module) (k : KeptExports) (store
   gives : (said : Report) → said ≡ report_of (state_in m store) ticks text → IsVerdict s bytes (Gives said text)
   gives said said-is =
       let same : Gives said text ≡ Gives (report_of (state_in m store) ticks (rewritten m (state_in m store) k)) (rewritten m (state_in m store) k)
-          = ap (λ (r : Report). Gives r text) said-is ∙ ap (λ (t : List ℕ). Gives (report_of (state_in m store) ticks t) t) is in
+      = ap (λ (r : Report). Gives r text) said-is ∙ ap (λ (t : List ℕ). Gives (report_of (state_in m store) ticks t) t) is in
       subst (λ (v : Verdict). IsVerdict s bytes v) (sym same) (run_gives s bytes m k store ticks run)
 
   pub done_made : (said : Report) → said ≡ report_of (state_in m store) ticks text → HasWritten (output_name s.output) text before now

@@ -121,10 +121,12 @@ has_functions fresh_is m order s ticks valid inside e = by_fresh (fresh m) refl 
       (λ index f found. import_in m.bodies (import_functions 0 m.imports ++ []) (imports_are 0 m.imports) index f
       (ap (λ (types : List ℕ). slice_get (map (λ x. function_in m.bodies x) (import_functions 0 m.imports ++ own_functions 0 types)) index) (sym empty)
       ∙ ap (λ (fs : List FunctionInstance). slice_get fs index) (sym functions) ∙ found))
+
   by_own : (first : State) → fresh m ≡ Instance first → (functions : List ℕ) → m.functions ≡ functions → phases_run (phases m order) first order.fuel 0 ≡ Reached s ticks
       → 0 < length m.functions
   by_own first is [] empty reached = absurd (phases_need_own (phases m order) first s order.fuel 0 ticks (some_phase m order) (none first is empty) reached)
   by_own first is (type ∷ types) own reached = subst (λ (fs : List ℕ). 0 < length fs) (sym own) (omega arith)
+
   by_fresh : (f : Fresh) → fresh m ≡ f → ready_from m order f ≡ Reached s ticks → 0 < length m.functions
   by_fresh (Instance first) is reached = by_own first is m.functions refl reached
   by_fresh (ElementUnfit index) is reached = absurd cc
@@ -143,6 +145,7 @@ one_memory m valid = by m.memories refl where
   too_many many =
       let only = value_in (λ (memory : MemType). IsMemoryOk memory × IsOnlyMemory m 1) (slice_get m.memories 1) (valid part.Memory 1 many) in
       absurd (let other = only.2.1 in omega (arith, other))
+
   by : (memories : List MemType) → m.memories ≡ memories → length m.memories ≤ 1
   by [] e = subst (λ (ms : List MemType). length ms ≤ 1) (sym e) (omega arith)
   by (one ∷ []) e = subst (λ (ms : List MemType). length ms ≤ 1) (sym e) (omega arith)
@@ -153,10 +156,10 @@ ranges_in memories [] all = All-nil _
 ranges_in memories (segment ∷ segments) all =
     All-cons (λ s. HasRange memories s) segment segments (range_in (slice_get memories segment.memory) (All-head (λ s. IsRangeOf memories s) segment segments all))
     (ranges_in memories segments (All-tail (λ s. IsRangeOf memories s) segment segments all)) where
-  range_in : (o : Option Memory) → IsSomeAnd o (λ memory. (0 < segment.len) × (segment.at + segment.len ≤ length memory.bytes))
-      → IsSomeAnd o (λ memory. segment.at + segment.len ≤ length memory.bytes)
-  range_in (Some memory) h = h.1
-  range_in None h = h
+      range_in : (o : Option Memory) → IsSomeAnd o (λ memory. (0 < segment.len) × (segment.at + segment.len ≤ length memory.bytes))
+          → IsSomeAnd o (λ memory. segment.at + segment.len ≤ length memory.bytes)
+      range_in (Some memory) h = h.1
+      range_in None h = h
 
 -- ---- all of it
 
@@ -176,11 +179,11 @@ can_write fresh_is run_is few_are ranges_are spells rises s bytes m k store tick
     let a = run.accepted in
     let is = run_is m _ (state_in m store) ticks a.valid a.inside run.reached in
     let maxima : length (map (λ (x : Memory). x.maximum) store.memories) ≡ length (map (λ x. x.limits.max) m.memories)
-        = ap (λ (p : LastingParts). length p.memory_maxima) is.module_parts in
+    = ap (λ (p : LastingParts). length p.memory_maxima) is.module_parts in
     let memories : length store.memories ≡ length m.memories
-        = sym (length-map store.memories (λ (x : Memory). x.maximum)) ∙ maxima ∙ length-map m.memories (λ x. x.limits.max) in
+    = sym (length-map store.memories (λ (x : Memory). x.maximum)) ∙ maxima ∙ length-map m.memories (λ x. x.limits.max) in
     let kinds : length (map (λ (g : Global). g.type) store.globals) ≡ length (map (λ (g : GlobalDef). g.kind) m.globals)
-        = ap (λ (p : LastingParts). length p.globals) is.module_parts in
+    = ap (λ (p : LastingParts). length p.globals) is.module_parts in
     let one = one_memory m a.valid in
     let few : length store.memories ≤ 100 = omega (arith, memories, one) in
     let own = has_functions fresh_is m _ (state_in m store) ticks a.valid a.inside run.reached in

@@ -154,7 +154,7 @@ module _ (one : OneVerdict) (s : Settings) (before mid now : World) (bytes right
 
 -- ---- behind the module's acceptance
 
-module _ (one : OneVerdict) (s : Settings) (before mid now : World) (bytes : List ℕ) (here : IsInputFrom before.told s.input bytes)
+module _ (one : OneVerdict) (s : Settings) (before mid : World) (bytes : List ℕ) (here : IsInputFrom before.told s.input bytes)
     (short : length bytes ≤ input_limit) (read : OnlyRead before mid) (from : IsReadFrom (input_name s.input) before mid) where
   stays_so : (now : World) (outcome : Outcome) → now ≡ mid → Ran outcome (Ok s) before mid → Ran outcome (Ok s) before now
   stays_so now outcome same ran = subst (λ (w : World). Ran outcome (Ok s) before w) (sym same) ran

@@ -67,7 +67,11 @@ fn hex_digit(digit: u8) -> u8
     requires { digit < 16 }
     ensures { result ≡ hex_digit digit }
 {
-    if digit < 10 { b'0' + digit } else { b'A' - 10 + digit }
+    if digit < 10 {
+        b'0' + digit
+    } else {
+        b'A' - 10 + digit
+    }
 }
 
 fn put_piece<E: Sink>(piece: Piece<'_>, messages: &mut E) -> Result<(), Failed>

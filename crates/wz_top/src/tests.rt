@@ -68,25 +68,27 @@ fn ended(alloc: Global, words: &[&str], pieces: &[&[u8]]) -> Result<Ending, Allo
 fn modules_go_through(rt: HostRuntime) -> Result<(), Fail> {
     let alloc = rt.alloc();
     let padded: &[u8] = b"\x0A\x09\x01\x07\0\x41\xAA\0\x24\0\x0B";
-    let sum: &[u8] = b"\x0A\x0E\x01\x0C\0\x23\0\x23\x01\x6A\x41\x7F\x6A\x24\x01\x0B";
-    // The type section's size is padded, and so is the index of a global among the exports.
-    let padded_types: &[u8] = b"\x01\x84\0\x01\x60\0\0";
-    let two_globals: &[u8] = b"\x06\x0B\x02\x7F\0\x41\x7E\x0B\x7F\x01\x41\x01\x0B";
-    let two_globals_after: &[u8] = b"\x06\x0B\x02\x7F\0\x41\x7E\x0B\x7F\x01\x41\x7E\x0B";
-    let three: &[u8] = b"\x07\x1D\x03\x01g\x03\x81\0\x10wizer.initialize\0\0\x01f\0\0";
-    let two: &[u8] = b"\x07\x09\x02\x01g\x03\x01\x01f\0\0";
-    let renamed: &[u8] = b"\x07\x1C\x03\x01g\x03\x01\x10wizer.initialize\0\0\x01h\0\0";
-    let table: [(&[&str], [&[u8]; 6], [&[u8]; 6], &str); 4] = [
+    let two_functions: &[u8] = b"\x03\x03\x02\0\0";
+    let second: &[u8] = b"\x07\x14\x01\x10wizer.initialize\0\x01";
+    let start: &[u8] = b"\x08\x01\0";
+    let sum: &[u8] = b"\x0A\x12\x02\x06\0\x41\x0A\x24\0\x0B\x09\0\x23\0\x41\x05\x6A\x24\0\x0B";
+    let fifteen: &[u8] = b"\x06\x06\x01\x7F\x01\x41\x0F\x0B";
+    let memory: &[u8] = b"\x05\x04\x01\x01\x01\x02";
+    let grown: &[u8] = b"\x05\x04\x01\x01\x02\x02";
+    let growing: &[u8] =
+        b"\x0A\x13\x01\x11\0\x41\x01\x40\0\x1A\x41\xFF\xFF\x07\x41\xFF\x01\x3A\0\0\x0B";
+    let data: &[u8] = b"\x0B\x09\x01\0\x41\xFF\xFF\x07\x0B\x01\xFF";
+    let table: [(&[&str], &[&[u8]], &[&[u8]], &str); 4] = [
         (
             &["in.wasm", "--output", "out.wasm", "--report"],
-            [HEADER, TYPES, FUNCTIONS, GLOBALS, EXPORTS, CODE],
-            [HEADER, TYPES, FUNCTIONS, GLOBALS_AFTER, EXPORTS_AFTER, CODE],
+            &[HEADER, TYPES, FUNCTIONS, GLOBALS, EXPORTS, CODE],
+            &[HEADER, TYPES, FUNCTIONS, GLOBALS_AFTER, EXPORTS_AFTER, CODE],
             "wizer: 3 ticks, 0 pages, 0 segments, 39 bytes\n",
         ),
         (
-            &WORDS,
-            [HEADER, TYPES, FUNCTIONS, GLOBALS, EXPORTS, padded],
-            [
+            &["in.wasm", "-o", "out.wasm", "--fuel=3"],
+            &[HEADER, TYPES, FUNCTIONS, GLOBALS, EXPORTS, padded],
+            &[
                 HEADER,
                 TYPES,
                 FUNCTIONS,
@@ -97,21 +99,29 @@ fn modules_go_through(rt: HostRuntime) -> Result<(), Fail> {
             "",
         ),
         (
-            &WORDS,
-            [HEADER, padded_types, FUNCTIONS, two_globals, three, sum],
-            [HEADER, TYPES, FUNCTIONS, two_globals_after, two, sum],
-            "",
+            &["in.wasm", "-o", "out.wasm", "--report"],
+            &[HEADER, TYPES, two_functions, GLOBALS, second, start, sum],
+            &[HEADER, TYPES, two_functions, fifteen, EXPORTS_AFTER, sum],
+            "wizer: 8 ticks, 0 pages, 0 segments, 50 bytes\n",
         ),
         (
-            &["-r", "h=f", "in.wasm", "--keep-init-func", "-o", "out.wasm"],
-            [HEADER, TYPES, FUNCTIONS, two_globals, three, sum],
-            [HEADER, TYPES, FUNCTIONS, two_globals_after, renamed, sum],
-            "",
+            &["in.wasm", "-o", "out.wasm", "--report"],
+            &[HEADER, TYPES, FUNCTIONS, memory, EXPORTS, growing],
+            &[
+                HEADER,
+                TYPES,
+                FUNCTIONS,
+                grown,
+                EXPORTS_AFTER,
+                growing,
+                data,
+            ],
+            "wizer: 7 ticks, 2 pages, 1 segments, 59 bytes\n",
         ),
     ];
     for (words, before, after, line) in table {
-        let end = ended(alloc, words, &before)?;
-        let output = joined(alloc, &after)?;
+        let end = ended(alloc, words, before)?;
+        let output = joined(alloc, after)?;
         assert_eq!(rt; end.outcome.code(), 0, "{line}");
         assert!(rt;
             end.files.file("out.wasm") == Some(output.as_slice()),
@@ -158,7 +168,7 @@ fn words_at_fault_are_refused(rt: HostRuntime) -> Result<(), Fail> {
 // What is refused for its input: no output is made.
 #[test]
 fn other_inputs_are_refused(rt: HostRuntime) -> Result<(), Fail> {
-    let table: [(&[&[u8]], &str); 13] = [
+    let table: [(&[&[u8]], &str); 14] = [
         (
             &[],
             "wizer: the input is no WebAssembly module of version 1\n",
@@ -245,7 +255,17 @@ fn other_inputs_are_refused(rt: HostRuntime) -> Result<(), Fail> {
                 EXPORTS,
                 b"\x0A\x05\x01\x03\0\0\x0B",
             ],
-            "wizer: this form of input isn't built yet\n",
+            "wizer: initialisation trapped: unreachable\n",
+        ),
+        (
+            &[
+                HEADER,
+                TYPES,
+                FUNCTIONS,
+                EXPORTS,
+                b"\x0A\x18\x01\x16\0\x44\0\0\0\0\0\0\0\0\x44\0\0\0\0\0\0\0\0\xA0\x1A\x0B",
+            ],
+            "wizer: the initialisation uses the float operation A0\n",
         ),
     ];
     for (pieces, line) in table {
@@ -260,7 +280,7 @@ fn other_inputs_are_refused(rt: HostRuntime) -> Result<(), Fail> {
 // What is refused for what the words ask of a module that goes through by itself, or of a sample.
 #[test]
 fn other_settings_are_refused(rt: HostRuntime) -> Result<(), Fail> {
-    let table: [(&[&str], &str); 5] = [
+    let table: [(&[&str], &str); 4] = [
         (
             &["in.wasm", "-r", "x=nosuch"],
             "wizer: there is no export \"nosuch\" to rename\n",
@@ -273,14 +293,7 @@ fn other_settings_are_refused(rt: HostRuntime) -> Result<(), Fail> {
             &["in.wasm", "--reactor"],
             "wizer: there is no export \"_initialize\"\n",
         ),
-        (
-            &["in.wasm", "--fuel", "3"],
-            "wizer: this form of input isn't built yet\n",
-        ),
-        (
-            &["--sample", "2"],
-            "wizer: this form of input isn't built yet\n",
-        ),
+        (&["in.wasm", "--fuel", "2"], "wizer: the fuel ran out\n"),
     ];
     for (words, line) in table {
         let pieces = [HEADER, TYPES, FUNCTIONS, GLOBALS, EXPORTS, CODE];
@@ -365,5 +378,15 @@ fn messages_that_fail_change_no_outcome(rt: HostRuntime) -> Result<(), Fail> {
     let outcome = wizer(alloc, &[], &mut files, &mut messages);
     assert!(rt; matches!(&outcome, Outcome::Exports(_)));
     assert!(rt; messages.text().is_empty());
+    Ok(())
+}
+
+#[test]
+fn a_sample_goes_to_standard_output(rt: HostRuntime) -> Result<(), Fail> {
+    let end = ended(rt.alloc(), &["--sample", "0"], &[])?;
+    assert_eq!(rt; end.outcome.code(), 0);
+    assert_eq!(rt; end.files.stdout().len(), 62);
+    let line = "wizer: 3 ticks, 16 pages, 0 segments, 62 bytes\n";
+    assert!(rt; end.messages.text() == line.as_bytes());
     Ok(())
 }

@@ -337,11 +337,7 @@ fn put_trapped<E: Sink>(phase: Phase, kind: TrapKind, messages: &mut E) -> Resul
 }
 
 /// The byte of an operation, and the number behind it where there is one.
-fn put_opcode<E: Sink>(
-    byte: u8,
-    number: Option<u32>,
-    messages: &mut E,
-) -> Result<(), Failed>
+fn put_opcode<E: Sink>(byte: u8, number: Option<u32>, messages: &mut E) -> Result<(), Failed>
     ensures all { OnOk result
         (SaysAll (opcode_words (byte, number)) (E.said messages.old) (E.said messages.new)) }
     ensures some { OnErr result

@@ -38,24 +38,24 @@ pub prepare-requires-clause-globals : goal.prepare-requires-clause-globals
 prepare-requires-clause-globals g c =
     let run = c.requires.run in
     let can = can_write c.reached_states.ensures.fresh c.reached_states.ensures.run c.chosen_segments.ensures.few c.chosen_segments.ensures.ranges
-        c.input_is_spelled.ensures.elements c.input_is_spelled.ensures.order _ run.0 _ _ _ _ run.1 in
+    c.input_is_spelled.ensures.elements c.input_is_spelled.ensures.order _ run.0 _ _ _ _ run.1 in
     can.globals ∙ ap (λ (r : RecordedState). length r.globals) (sym c.in-Ok.ensures)
 
 pub pages_together-pages-requires : goal.pages_together-pages-requires
 pages_together-pages-requires g c =
     let run = c.requires.run in
     let can = can_write c.reached_states.ensures.fresh c.reached_states.ensures.run c.chosen_segments.ensures.few c.chosen_segments.ensures.ranges
-        c.input_is_spelled.ensures.elements c.input_is_spelled.ensures.order _ run.0 _ _ _ _ run.1 in
+    c.input_is_spelled.ensures.elements c.input_is_spelled.ensures.order _ run.0 _ _ _ _ run.1 in
     subst (λ (r : RecordedState). sum r.pages < 2 ^ 32) (sym c.in-Ok.ensures) (pages_fit c.args.reached.now.store can.small)
 
 pub overflow_cast-segments : goal.overflow_cast-segments
 overflow_cast-segments g c =
     let run = c.requires.run in
     let can = can_write c.reached_states.ensures.fresh c.reached_states.ensures.run c.chosen_segments.ensures.few c.chosen_segments.ensures.ranges
-        c.input_is_spelled.ensures.elements c.input_is_spelled.ensures.order _ run.0 _ _ _ _ run.1 in
+    c.input_is_spelled.ensures.elements c.input_is_spelled.ensures.order _ run.0 _ _ _ _ run.1 in
     let few = can.segments in
     let chosen : length c.segments-chosen.result.now ≡ length (chosen_segments c.args.reached.now.store.memories)
-        = ap (λ xs. length xs) c.segments-chosen.ensures ∙ ap (λ (r : RecordedState). length r.segments) c.in-Ok.ensures in
+    = ap (λ xs. length xs) c.segments-chosen.ensures ∙ ap (λ (r : RecordedState). length r.segments) c.in-Ok.ensures in
     omega (arith, few, chosen)
 
 pub returns-in-Ok-deliver-clause-made : goal.returns-in-Ok-deliver-clause-made
@@ -65,7 +65,7 @@ returns-in-Ok-deliver-clause-made g c = λ bytes run.
     let k = c.args.kept.now in
     let store = c.args.reached.now.store in
     let can = can_write c.reached_states.ensures.fresh c.reached_states.ensures.run c.chosen_segments.ensures.few c.chosen_segments.ensures.ranges
-        c.input_is_spelled.ensures.elements c.input_is_spelled.ensures.order s bytes m k store c.args.reached.now.ticks run in
+    c.input_is_spelled.ensures.elements c.input_is_spelled.ensures.order s bytes m k store c.args.reached.now.ticks run in
     let text = pieces_text store.memories c.in-Ok-prepare.output in
     let ranges = subst (λ (r : RecordedState). HasRanges store.memories r.segments) (sym c.in-Ok.ensures) can.ranges in
     let is = c.in-Ok-prepare.ensures.bytes store.memories ranges ∙ ap (λ (r : RecordedState). output_bytes m (output_state m r store.memories k)) c.in-Ok.ensures in
@@ -83,7 +83,7 @@ returns-in-Err-Failed-clause-made g c = λ bytes run.
     let k = c.args.kept.now in
     let store = c.args.reached.now.store in
     let can = can_write c.reached_states.ensures.fresh c.reached_states.ensures.run c.chosen_segments.ensures.few c.chosen_segments.ensures.ranges
-        c.input_is_spelled.ensures.elements c.input_is_spelled.ensures.order s bytes m k store c.args.reached.now.ticks run in
+    c.input_is_spelled.ensures.elements c.input_is_spelled.ensures.order s bytes m k store c.args.reached.now.ticks run in
     let text = pieces_text store.memories c.in-Ok-prepare.output in
     let ranges = subst (λ (r : RecordedState). HasRanges store.memories r.segments) (sym c.in-Ok.ensures) can.ranges in
     let is = c.in-Ok-prepare.ensures.bytes store.memories ranges ∙ ap (λ (r : RecordedState). output_bytes m (output_state m r store.memories k)) c.in-Ok.ensures in

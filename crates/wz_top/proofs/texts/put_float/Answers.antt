@@ -21,7 +21,7 @@ returns-clause-all g c =
     let mid = g.E.Sink.said c.put_words.new.messages in
     let now = g.E.Sink.said c.put_opcode.new.messages in
     on_ok_as c.put_opcode.result (λ said. says_both front words before mid now c.in_ok-put_words.ensures.all said)
-    (subst (λ (w : ℕ × Option ℕ). OnOk c.put_opcode.result (SaysAll (opcode_words w) mid now)) c.opcode.ensures c.put_opcode.ensures.all)
+    (subst (λ (w : ℕ × Option ℕ). OnOk c.put_opcode.result (SaysAll (opcode_words w) mid now)) c.opcode-byte.ensures c.put_opcode.ensures.all)
 
 pub returns-clause-some : goal.returns-clause-some
 returns-clause-some g c =
@@ -30,4 +30,4 @@ returns-clause-some g c =
     let mid = g.E.Sink.said c.put_words.new.messages in
     let now = g.E.Sink.said c.put_opcode.new.messages in
     on_err_as c.put_opcode.result (λ said. says_front front words before mid now c.in_ok-put_words.ensures.all said)
-    (subst (λ (w : ℕ × Option ℕ). OnErr c.put_opcode.result (SaysFirst (opcode_words w) mid now)) c.opcode.ensures c.put_opcode.ensures.some)
+    (subst (λ (w : ℕ × Option ℕ). OnErr c.put_opcode.result (SaysFirst (opcode_words w) mid now)) c.opcode-byte.ensures c.put_opcode.ensures.some)
