@@ -190,7 +190,7 @@ put_own_inside values (Innermost old code) h k = own_append values old h k
 put_own_inside values (InLabel below count again inside rest) h k = (k.0, put_own_inside values inside h k.1)
 put_own_inside values (InFrame below count own inside rest) h k = (k.0, k.1, put_own_inside values inside h k.2)
 
-abbrev StandingOwn : Standing → Type 0
+abbrev pub StandingOwn : Standing → Type 0
 StandingOwn (Runs term) = TermOwn term
 StandingOwn (Waits question rest) = TermOwn rest
 
@@ -253,7 +253,7 @@ standing_left was first left made s (Some (Waits question rest)) last fuel ticks
     question_left was first (λ now new. run_from left made now new) last fuel ticks (λ now new h k e. run_from_left was first left made now new last fuel ticks h k e) s rest
     question h (own (Waits question rest) refl) e
 
-entered_own : (o : Option Callable) (standing : Standing) → entered_callable o [] ≡ Some standing → StandingOwn standing
+pub entered_own : (o : Option Callable) (standing : Standing) → entered_callable o [] ≡ Some standing → StandingOwn standing
 entered_own None standing e = absurd (cc e)
 entered_own (Some function) standing e = by function.body e
   where

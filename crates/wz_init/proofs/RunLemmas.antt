@@ -9,14 +9,15 @@ use Rattle.wz_code.specs.declared.numeric.NumOp.{NumOp}
 use Rattle.wz_store.specs.Changes.{Change, applied}
 use Rattle.wz_machine.specs.declared.questions.HostTarget.TheVariants as target
 use Rattle.wz_machine.specs.State.{State}
-use Rattle.wz_machine.specs.Terms.{Term, Question, AskFloat, AskMemory, AskTable, AskHost}
+use Rattle.wz_machine.specs.Terms.{Term, Question, AskFloat, AskMemory, AskTable, AskHost, Standing, Runs, Waits}
 use Rattle.wz_machine.specs.Outcomes.{Answer, Next, Done, Trap, Ask, Stuck}
 use Rattle.wz_machine.specs.Step.{step}
 use Rattle.wz_machine.specs.Next.{next}
 use Rattle.wz_machine.specs.Frames.{frame_count, local_count}
 use Rattle.wz_init.specs.Steps.{StepsOn, EntersNone, Reaches, ReachesEntry}
 use Rattle.wz_machine.specs.Replies.{put}
-use Rattle.wz_init.specs.Run.{Stop, FuelIsSpent, TableWouldChange, FramesAreTooMany, LocalsAreTooMany, Trapped, NoRuleFits, FloatIsAsked, ImportIsCalled, RunEnd, Returned, Stopped, head_changes_table, frames_limit, all_locals_limit, too_much, within_limits, growth_change, growth_value, run_question, run_on, run_from}
+use Rattle.wz_machine.specs.Entered.{entered}
+use Rattle.wz_init.specs.Run.{Stop, FuelIsSpent, TableWouldChange, FramesAreTooMany, LocalsAreTooMany, Trapped, NoRuleFits, FloatIsAsked, ImportIsCalled, RunEnd, Returned, Stopped, head_changes_table, frames_limit, all_locals_limit, too_much, within_limits, growth_change, growth_value, run_question, run_on, run_from, run_standing, run}
 use Rattle.wz_init.specs.Reached.{HoldsOwn, TermOwn}
 use Rattle.wz_init.specs.Turns.{IsWithinLimits}
 use Rattle.wz_init.proofs.FineLemmas.{IsFine, AnswerFine, step_fine}
@@ -119,3 +120,18 @@ pub entry_own : (n : ℕ) (s after : State) (term new : Term) → ReachesEntry n
 entry_own zero s after term new h own holds = absurd h
 entry_own (suc n) s after term new h own holds =
     let before = reaches_own n s h.0 term h.1 h.2 own holds in steps_own h.0 after h.1 new h.3 before.0 before.1
+
+-- ---- the run of a function
+
+pub run_own : (s : State) (function fuel ticks : ℕ) (term : Term) → entered s function [] ≡ Some (Runs term) → run s function fuel ticks ≡ run_from fuel ticks s term
+unfolding run
+run_own s function fuel ticks term e = ap (λ (o : Option Standing). run_standing fuel ticks s o) e
+
+pub run_import : (s : State) (function fuel ticks number : ℕ) (type : FunctionType) (rest : Term)
+    → entered s function [] ≡ Some (Waits (AskHost (target.Import number) [] type) rest) → run s function fuel ticks ≡ Stopped (ImportIsCalled number)
+unfolding run
+run_import s function fuel ticks number type rest e = ap (λ (o : Option Standing). run_standing fuel ticks s o) e
+
+pub run_missing : (s : State) (function fuel ticks : ℕ) → entered s function [] ≡ None → run s function fuel ticks ≡ Stopped NoRuleFits
+unfolding run
+run_missing s function fuel ticks e = ap (λ (o : Option Standing). run_standing fuel ticks s o) e

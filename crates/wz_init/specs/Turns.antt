@@ -12,6 +12,9 @@ use Rattle.wz_machine.specs.Step.{step}
 use Rattle.wz_machine.specs.Frames.{frame_count, local_count}
 use Rattle.wz_init.specs.declared.turn.Turned.{Turned}
 use Rattle.wz_init.specs.declared.turn.Turned.TheVariants as turned
+use Rattle.wz_machine.specs.Entered.{entered}
+use Rattle.wz_init.specs.declared.turn.Entered.{Entered}
+use Rattle.wz_init.specs.declared.turn.Entered.TheVariants as entry
 use Rattle.wz_init.specs.declared.turn.Round.{Round}
 use Rattle.wz_init.specs.declared.turn.Round.TheVariants as round
 use Rattle.wz_init.specs.declared.order.Phase.{Phase}
@@ -72,6 +75,19 @@ StopsBy phase end fault.NoMemory = Unit {0}
 abbrev pub IsTurned : Bool → State → Term → State → List Standing → ℕ → ℕ → Type 0
 IsTurned true s term after stack fuel ticks = run_from (suc fuel) ticks s term ≡ run_from fuel (ticks + 1) after (top_term stack)
 IsTurned false s term after stack fuel ticks = run_from (suc fuel) ticks s term ≡ Returned after fuel (ticks + 1)
+
+-- ---- entering a function
+
+-- what it came to, in this state and with this stack then
+abbrev pub IsEntered : State → ℕ → Entered → State → List Standing → Type 0
+IsEntered s function entry.Own after stack = (entered s function [] ≡ Some (Runs (top_term stack))) × (after ≡ s) × IsAlone stack
+IsEntered s function (entry.Import number) after stack =
+    (type : FunctionType) × (rest : Term) × (entered s function [] ≡ Some (Waits (AskHost (target.Import number) [] type) rest))
+IsEntered s function entry.Missing after stack = entered s function [] ≡ None
+
+-- each function's term begins within the limits
+abbrev pub FunctionsAreSmall : State → Type 0
+FunctionsAreSmall s = (function : ℕ) (term : Term) → entered s function [] ≡ Some (Runs term) → IsWithinLimits term
 
 -- ---- the machine, from turn to turn
 

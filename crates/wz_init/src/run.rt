@@ -5,14 +5,15 @@ ghost use Rattle.std.specs.Bool.{OnTrue, OnFalse};
 ghost use Rattle.wz_store.specs.Changes.{applied};
 ghost use Rattle.wz_machine.specs.Terms.{Runs};
 ghost use Rattle.wz_machine.specs.Replies.{put};
-ghost use Rattle.wz_init.specs.Run.{Returned, growth_change, growth_value, run_from};
+ghost use Rattle.wz_init.specs.Run.{Returned, growth_change, growth_value, run_from, run};
 ghost use Rattle.wz_init.specs.Turns.{top_term, IsAlone, IsWithinLimits, IsRunning, HasEnded};
 ghost use Rattle.wz_init.specs.Turns.{IsAskedHere, IsBeyond, IsTurned, IsRound, StopsBy};
+ghost use Rattle.wz_init.specs.Turns.{FunctionsAreSmall};
 
 use crate::faults::InitFault;
 use crate::order::Phase;
 use crate::stepping::Steps;
-use crate::turn::{Round, Turned};
+use crate::turn::{Entered, Round, Turned};
 
 /// How many frames there are at one time at most.
 const FRAMES_LIMIT: u64 = 20_000;
@@ -133,4 +134,28 @@ pub(crate) fn run_term<S: Steps>(machine: &mut S, phase: Phase, fuel: u64) -> Re
         }
     }
     Err(InitFault::OutOfFuel)
+}
+
+/// Runs a function that takes nothing to its end, and gives the fuel that is left.
+pub(crate) fn run_function<S: Steps>(
+    machine: &mut S,
+    phase: Phase,
+    function: u32,
+    fuel: u64,
+) -> Result<u64, InitFault>
+    requires ended { HasEnded (S.state machine.old) (S.stack machine.old) }
+    requires small { FunctionsAreSmall (S.state machine.old) }
+    ensures left { IfOk result (λ left. left ≤ fuel) }
+    ensures ended { OnOk result (HasEnded (S.state machine.new) (S.stack machine.new)) }
+    ensures returned { (ticks : ℕ) → IfOk result (λ left.
+        run (S.state machine.old) function fuel ticks
+        ≡ Returned (S.state machine.new) left (ticks + (fuel - left))) }
+    ensures stopped { (ticks : ℕ) → IfErr result (λ fault. StopsBy phase
+        (run (S.state machine.old) function fuel ticks) fault) }
+{
+    match machine.enter(function)? {
+        Entered::Own => run_term(machine, phase, fuel),
+        Entered::Import(import) => Err(InitFault::ImportCalled { import }),
+        Entered::Missing => Err(InitFault::Stuck),
+    }
 }

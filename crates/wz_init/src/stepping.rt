@@ -8,9 +8,10 @@ ghost use Rattle.wz_machine.specs.Frames.{frame_count, local_count};
 ghost use Rattle.wz_machine.specs.Replies.{put};
 ghost use Rattle.wz_store.specs.Changes.{applied};
 ghost use Rattle.wz_init.specs.Run.{head_changes_table, pages_together, is_granted, growth_change, growth_value};
-ghost use Rattle.wz_init.specs.Turns.{top_term, IsAlone, IsTicked, IsAskedHere, HasAdvanced};
+ghost use Rattle.wz_init.specs.Turns.{top_term, IsAlone, IsEntered, IsTicked, IsAskedHere};
+ghost use Rattle.wz_init.specs.Turns.{HasAdvanced};
 
-use crate::turn::Turned;
+use crate::turn::{Entered, Turned};
 use std::alloc::AllocError;
 
 /// A machine with one term.
@@ -19,6 +20,12 @@ pub(crate) trait Steps {
 
     /// The terms, the topmost first.
     ghost stack: { Self → List Standing };
+
+    /// Puts the term of a function that takes nothing on the empty stack.
+    fn enter(&mut self, function: u32) -> Result<Entered, AllocError>
+        requires { stack self.old ≡ [] }
+        ensures { IfOk result (λ entered. IsEntered (state self.old) function entered
+            (state self.new) (stack self.new)) };
 
     /// Whether the next tick would change a table.
     fn would_change_table(&self) -> bool

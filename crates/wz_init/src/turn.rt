@@ -28,3 +28,11 @@ pub(crate) enum Round {
     Goes(u64),
     Returned(u64),
 }
+
+/// What entering a function comes to: its term runs, it is this import, or there is none.
+#[derive(Clone, Copy, PartialEq, Eq)]
+pub(crate) enum Entered {
+    Own,
+    Import(u32),
+    Missing,
+}
