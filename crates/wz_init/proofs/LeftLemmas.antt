@@ -266,7 +266,7 @@ entered_own (Some function) standing e = by function.body e
         subst (λ (x : Standing). StandingOwn x) same tt
     by NoBody e = absurd (cc e)
 
-run_left : (was first s : State) (function left made : ℕ) (last : State) (fuel ticks : ℕ) → IsLeftOf was first s → run s function left made ≡ Returned last fuel ticks
+pub run_left : (was first s : State) (function left made : ℕ) (last : State) (fuel ticks : ℕ) → IsLeftOf was first s → run s function left made ≡ Returned last fuel ticks
     → IsLeftOf was first last
 unfolding run
 run_left was first s function left made last fuel ticks h e =

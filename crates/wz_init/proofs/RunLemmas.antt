@@ -1,26 +1,20 @@
 -- The run from a term, by what its next step comes to, and by many steps that went on.
-use Rattle.std.proofs.Common.{◌≡◌, ℕ, zero, suc, ◌+◌, ◌-◌, ◌<◌, ◌≤◌, nat_lt, List, [], ◌∷◌, Option, Some, None, Bool, true, false, IsTrue, IsFalse, if◌then◌else◌, slice_get, refl, sym, ap, subst, ◌∙◌, arith}
+use Rattle.std.proofs.Common.{◌≡◌, ℕ, zero, suc, ◌+◌, ◌<◌, ◌≤◌, nat_lt, [], Option, Some, None, Bool, true, false, if◌then◌else◌, refl, sym, ap, subst, ◌∙◌, arith}
 use Rattle.std.proofs.Common.{le-ltb, lt-ltb}
-use Rattle.std.proofs.lemmas.Bool.{ltb-false}
-use Rattle.wz_types.specs.declared.trap.TrapKind.{TrapKind}
-use Rattle.wz_types.specs.declared.value.Value.{Value}
 use Rattle.wz_types.specs.FunctionType.{FunctionType}
-use Rattle.wz_code.specs.declared.numeric.NumOp.{NumOp}
-use Rattle.wz_store.specs.Changes.{Change, applied}
 use Rattle.wz_machine.specs.declared.questions.HostTarget.TheVariants as target
 use Rattle.wz_machine.specs.State.{State}
-use Rattle.wz_machine.specs.Terms.{Term, Question, AskFloat, AskMemory, AskTable, AskHost, Standing, Runs, Waits}
-use Rattle.wz_machine.specs.Outcomes.{Answer, Next, Done, Trap, Ask, Stuck}
+use Rattle.wz_machine.specs.Terms.{Term, AskHost, Standing, Runs, Waits}
+use Rattle.wz_machine.specs.Outcomes.{Answer, Next}
 use Rattle.wz_machine.specs.Step.{step}
 use Rattle.wz_machine.specs.Next.{next}
 use Rattle.wz_machine.specs.Frames.{frame_count, local_count}
-use Rattle.wz_init.specs.Steps.{StepsOn, EntersNone, Reaches, ReachesEntry}
-use Rattle.wz_machine.specs.Replies.{put}
+use Rattle.wz_init.specs.Steps.{StepsOn, Reaches, ReachesEntry}
 use Rattle.wz_machine.specs.Entered.{entered}
-use Rattle.wz_init.specs.Run.{Stop, FuelIsSpent, TableWouldChange, FramesAreTooMany, LocalsAreTooMany, Trapped, NoRuleFits, FloatIsAsked, ImportIsCalled, RunEnd, Returned, Stopped, head_changes_table, frames_limit, all_locals_limit, too_much, within_limits, growth_change, growth_value, run_question, run_on, run_from, run_standing, run}
+use Rattle.wz_init.specs.Run.{Stop, FuelIsSpent, TableWouldChange, FramesAreTooMany, LocalsAreTooMany, NoRuleFits, ImportIsCalled, Stopped, head_changes_table, frames_limit, all_locals_limit, too_much, within_limits, run_on, run_from, run_standing, run}
 use Rattle.wz_init.specs.Reached.{HoldsOwn, TermOwn}
 use Rattle.wz_init.specs.Turns.{IsWithinLimits}
-use Rattle.wz_init.proofs.FineLemmas.{IsFine, AnswerFine, step_fine}
+use Rattle.wz_init.proofs.FineLemmas.{AnswerFine, step_fine}
 use Rattle.wz_init.proofs.LeftLemmas.{own_on}
 
 -- ---- limits

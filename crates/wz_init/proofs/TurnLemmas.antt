@@ -1,22 +1,22 @@
 -- What a turn is to the run.
-use Rattle.std.proofs.Common.{◌≡◌, ℕ, zero, suc, ◌+◌, ◌-◌, ◌<◌, ◌≤◌, ◌⊎◌, inl, inr, nat_le, ◌==◌, List, [], ◌∷◌, ◌++◌, Option, Some, None, Bool, true, false, if◌then◌else◌, length, take, drop, reverse, slice_get, refl, sym, ap, subst, ◌∙◌, arith}
+use Rattle.std.proofs.Common.{◌≡◌, ℕ, zero, suc, ◌+◌, ◌-◌, ◌<◌, ◌≤◌, ◌⊎◌, inl, inr, nat_le, ◌==◌, List, [], ◌∷◌, ◌++◌, Option, Some, None, false, length, take, drop, reverse, slice_get, refl, sym, ap, subst, ◌∙◌, arith}
 use Rattle.wz_types.specs.declared.trap.TrapKind.{TrapKind}
 use Rattle.wz_types.specs.declared.value.Value.{Value}
 use Rattle.wz_types.specs.FunctionType.{FunctionType}
 use Rattle.wz_code.specs.Trees.{Code, End, Then, InBlock, InLoop, InIf}
-use Rattle.wz_store.specs.Changes.{Change, Nothing, applied}
+use Rattle.wz_store.specs.Changes.{Nothing, applied}
 use Rattle.wz_machine.specs.State.{State}
-use Rattle.wz_machine.specs.Terms.{Inside, Innermost, InLabel, InFrame, Term, Frame, BareValues, Question, AskFloat, AskMemory, AskTable, AskHost, Standing, Runs, Waits}
-use Rattle.wz_machine.specs.Outcomes.{Effect, Yields, Poses, Fails, HasNoRule, Outcome, Does, SetsLocals, Jumps, Quits, Calls, Reduct, Goes, Finishes, Branches, Returns, Pauses, Traps, Sticks, Answer, Next, Done, Trap, Ask, Stuck}
+use Rattle.wz_machine.specs.Terms.{Inside, Innermost, InLabel, InFrame, Term, Frame, BareValues, Question, AskFloat, AskMemory, AskTable, AskHost, Standing, Runs}
+use Rattle.wz_machine.specs.Outcomes.{Yields, Poses, Fails, HasNoRule, Outcome, Does, SetsLocals, Jumps, Quits, Calls, Reduct, Goes, Finishes, Branches, Returns, Pauses, Traps, Sticks, Answer, Next, Done, Trap, Ask, Stuck}
 use Rattle.wz_machine.specs.InstrSteps.{leaf_step}
 use Rattle.wz_machine.specs.BlockSteps.{block_type, label_types, block_entry, if_entry, arrival, label_reduct, frame_left, frame_reduct}
-use Rattle.wz_machine.specs.Step.{outcome_reduct, code_reduct, inside_reduct, results_answer, frame_answer, step}
+use Rattle.wz_machine.specs.Step.{outcome_reduct, code_reduct, inside_reduct, frame_answer, step}
 use Rattle.wz_machine.specs.Next.{next}
 use Rattle.wz_machine.specs.Frames.{frames_inside, locals_inside, frame_count, local_count}
 use Rattle.wz_machine.specs.Replies.{put, put_inside}
 use Rattle.wz_machine.proofs.LeafLemmas.{if-both}
 use Rattle.wz_types.specs.declared.value.Value.TheVariants.{I32}
-use Rattle.wz_init.specs.Run.{Stop, FramesAreTooMany, LocalsAreTooMany, RunEnd, Returned, Stopped, head_changes_table, TableWouldChange, Trapped, NoRuleFits, FloatIsAsked, ImportIsCalled, too_much, within_limits, growth_change, growth_value, run_on, run_from}
+use Rattle.wz_init.specs.Run.{Stop, FramesAreTooMany, LocalsAreTooMany, RunEnd, Returned, Stopped, head_changes_table, TableWouldChange, Trapped, NoRuleFits, FloatIsAsked, ImportIsCalled, too_much, within_limits, growth_change, growth_value, run_from}
 use Rattle.wz_code.specs.declared.numeric.NumOp.{NumOp}
 use Rattle.wz_machine.specs.declared.questions.HostTarget.TheVariants as target
 use Rattle.wz_init.specs.declared.turn.Turned.TheVariants as turned

@@ -78,6 +78,12 @@ pub record IsLeftOf (written first now : State) : Type 0 where
   pub fitting : GlobalsFit now
   pub own : HoldsOwn now
 
+-- what it takes for a state to be left of itself
+pub record IsSound (s : State) : Type 0 where
+  pub pages : pages_together s.memories ≤ pages_limit
+  pub fitting : GlobalsFit s
+  pub own : HoldsOwn s
+
 -- ---- of a module
 
 -- what lasts of the module's instance

@@ -12,6 +12,7 @@ mod faults;
 mod instantiation;
 pub mod laws;
 mod order;
+mod phases;
 mod run;
 mod segments;
 mod stepping;

@@ -1,4 +1,4 @@
-use Rattle.std.proofs.Common.{◌≡◌, ◌-◌, ◌+◌, ◌<◌, ◌≤◌, ◌∙◌, ap, subst, suc, ℕ, refl, sym, true, false, Bool, arith}
+use Rattle.std.proofs.Common.{◌≡◌, ◌-◌, ◌+◌, ◌<◌, ◌≤◌, ◌∙◌, ap, subst, suc, ℕ, refl, sym, Bool, arith}
 use Rattle.std.specs.Bool.{OnTrue, OnFalse}
 use Rattle.wz_init.specs.Run.{RunEnd, Returned, run_from}
 use Rattle.wz_init.specs.Turns.{top_term, IsTurned, IsRunning, HasEnded, StopsBy}

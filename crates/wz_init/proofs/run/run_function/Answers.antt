@@ -1,10 +1,9 @@
-use Rattle.std.proofs.Common.{◌≡◌, ◌-◌, ◌+◌, ◌∙◌, ℕ, [], Some, None, IfOk, IfErr, ap, subst, sym}
-use Rattle.wz_machine.specs.declared.questions.HostTarget.TheVariants as target
+use Rattle.std.proofs.Common.{◌≡◌, ◌-◌, ◌+◌, ◌∙◌, IfOk, IfErr, ap, subst, sym}
 use Rattle.wz_machine.specs.State.{State, callable_at}
 use Rattle.wz_machine.specs.Terms.{Runs}
 use Rattle.wz_init.specs.declared.turn.Entered.{Entered}
 use Rattle.wz_init.specs.declared.turn.Entered.TheVariants as entry
-use Rattle.wz_init.specs.Run.{RunEnd, Returned, run_from, run}
+use Rattle.wz_init.specs.Run.{RunEnd, Returned, run_from}
 use Rattle.wz_init.specs.Reached.{HoldsOwn}
 use Rattle.wz_init.specs.Turns.{top_term, IsEntered, StopsBy}
 use Rattle.wz_init.proofs.LeftLemmas.{entered_own}

@@ -1,11 +1,11 @@
-use Rattle.std.proofs.Common.{◌≡◌, ◌∙◌, ap, false, refl, subst}
+use Rattle.std.proofs.Common.{◌≡◌, false, refl, subst}
 use Rattle.wz_machine.specs.Next.{next}
 use Rattle.wz_init.specs.declared.turn.Turned.{Turned}
 use Rattle.wz_init.specs.declared.turn.Turned.TheVariants as turned
 use Rattle.wz_init.specs.Run.{head_changes_table}
 use Rattle.wz_init.specs.Turns.{top_term, IsTicked}
 use Rattle.wz_init.proofs.RunLemmas.{run_refused}
-use Rattle.wz_init.proofs.TurnLemmas.{went_run, went_beyond, went_running, ended_run, ended, asked_here, grown_run, grown_running, trapped_run, float_run, table_run, import_run, foreign_run, stuck_run}
+use Rattle.wz_init.proofs.TurnLemmas.{went_run, went_beyond, went_running, ended_run, asked_here, grown_run, grown_running, trapped_run, float_run, table_run, import_run, foreign_run, stuck_run}
 use Rattle.wz_init.proofs.run.turn.Goals as goal
 
 pub returns-then-would_change_table-clause-stopped : goal.returns-then-would_change_table-clause-stopped
