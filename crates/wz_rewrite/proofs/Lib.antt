@@ -1,0 +1,14 @@
+pub mod AllLemmas
+pub mod GatheringLemmas
+pub mod WritingLemmas
+pub mod IdLemmas
+pub mod SectionLemmas
+pub mod PieceLaws
+pub mod ExportLemmas
+pub mod GlobalLemmas
+pub mod SegmentLemmas
+pub mod PreparedLemmas
+pub mod LookupLemmas
+pub mod OrderLemmas
+pub mod ContentLemmas
+pub mod SpellLaws

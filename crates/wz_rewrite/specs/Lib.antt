@@ -1,0 +1,12 @@
+pub mod OutputState
+pub mod Dropped
+pub mod Slots
+pub mod Segments
+pub mod Parts
+pub mod Sections
+pub mod Output
+pub mod Pieces
+pub mod Laws
+pub mod Gathering
+pub mod Views
+pub mod Sources

@@ -1,0 +1,25 @@
+//! What holds of the output, whatever writes it: the contract of each function is a law, and its
+//! body is empty.
+
+ghost use Rattle.wz_rewrite.specs.Laws.{PiecesAreOutput, PiecesAreChosen, PiecesAreKept};
+ghost use Rattle.wz_rewrite.specs.Laws.{OutputSpells, InputSpellsElements, InputIsInOrder};
+
+/// The pieces, with each range read from its memory, are the output's bytes; their ranges are the
+/// chosen ones; and what they have of the input is just the contents that stay.
+pub fn pieces_are_output()
+    ensures bytes { PiecesAreOutput }
+    ensures ranges { PiecesAreChosen }
+    ensures kept { PiecesAreKept }
+{}
+
+/// The output as bytes spells the output as a module.
+pub fn output_is_spelled()
+    ensures { OutputSpells }
+{}
+
+/// A module that was read is what `prepare` asks for: its element section spells its element
+/// segments, and its sections are in order.
+pub fn input_is_spelled()
+    ensures elements { InputSpellsElements }
+    ensures order { InputIsInOrder }
+{}
