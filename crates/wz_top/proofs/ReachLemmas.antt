@@ -100,7 +100,7 @@ stopped_is_not_reached : (phase : Phase) (later : State → ℕ → ℕ → Read
 stopped_is_not_reached phase later (Returned now fuel made) s ticks stops e = absurd stops
 stopped_is_not_reached phase later (Stopped stop) s ticks stops e = absurd cc
 
-some_phase : (m : Module) (order : RunOrder) → 0 < length (phases m order)
+some_phase : (m : Module) (order : RunOrder) → 0 < length (phases m.start order)
 some_phase m order = simp length-append (omega arith)
 
 phases_need_own : (ps : List (Phase × ℕ)) (first s : State) (fuel made ticks : ℕ) → 0 < length ps
@@ -122,9 +122,9 @@ has_functions fresh_is m order s ticks valid inside e = by_fresh (fresh m) refl 
       (ap (λ (types : List ℕ). slice_get (map (λ x. function_in m.bodies x) (import_functions 0 m.imports ++ own_functions 0 types)) index) (sym empty)
       ∙ ap (λ (fs : List FunctionInstance). slice_get fs index) (sym functions) ∙ found))
 
-  by_own : (first : State) → fresh m ≡ Instance first → (functions : List ℕ) → m.functions ≡ functions → phases_run (phases m order) first order.fuel 0 ≡ Reached s ticks
+  by_own : (first : State) → fresh m ≡ Instance first → (functions : List ℕ) → m.functions ≡ functions → phases_run (phases m.start order) first order.fuel 0 ≡ Reached s ticks
       → 0 < length m.functions
-  by_own first is [] empty reached = absurd (phases_need_own (phases m order) first s order.fuel 0 ticks (some_phase m order) (none first is empty) reached)
+  by_own first is [] empty reached = absurd (phases_need_own (phases m.start order) first s order.fuel 0 ticks (some_phase m order) (none first is empty) reached)
   by_own first is (type ∷ types) own reached = subst (λ (fs : List ℕ). 0 < length fs) (sym own) (omega arith)
 
   by_fresh : (f : Fresh) → fresh m ≡ f → ready_from m order f ≡ Reached s ticks → 0 < length m.functions
