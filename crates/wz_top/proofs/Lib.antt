@@ -1,3 +1,4 @@
+pub mod RunnableLemmas
 pub mod MakingLemmas
 pub mod ReachLemmas
 pub mod TurnLemmas

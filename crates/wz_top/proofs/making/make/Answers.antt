@@ -1,4 +1,5 @@
-use Rattle.std.proofs.Common.{◌≡◌, subst, sym}
+use Rattle.std.proofs.Common.{◌≡◌, ℕ, subst, sym}
+use Rattle.std.specs.Prelude.{Option, IfSome}
 use Rattle.wz_module.specs.Meaning.{module_of}
 use Rattle.wz_words.specs.Settings.{settings_of}
 use Rattle.wz_init.specs.declared.order.RunOrder.{RunOrder}
@@ -6,6 +7,7 @@ use Rattle.wz_init.specs.Ready.{IsRefused}
 use Rattle.wz_top.specs.Verdict.{IsRefusedBy, order_of}
 use Rattle.wz_top.specs.declared.outcome.Outcome.{Outcome}
 use Rattle.wz_top.proofs.OutsideLaws.{names_differ}
+use Rattle.wz_top.proofs.RunnableLemmas.{TakesNothing, kept_run}
 use Rattle.wz_top.proofs.TurnLemmas.{export_refused, run_refused}
 use Rattle.wz_top.proofs.MakingLemmas.{refused_made}
 use Rattle.wz_top.proofs.making.make.Goals as goal
@@ -19,6 +21,17 @@ returns-in-Err-clause-made g c = λ bytes a.
     refused_made s bytes c.export_outcome.result (g.F.Files.world c.args.files.now)
     (subst (λ (o : Outcome). IsRefusedBy s bytes o) (sym c.export_outcome.ensures)
     (export_refused s bytes (module_of c.args.accepted.now) c.in-Err.fault a c.in-Err.ensures.fault))
+
+pub initialise-requires-clause-function : goal.initialise-requires-clause-function
+initialise-requires-clause-function g c =
+    let m = module_of c.args.accepted.now in
+    subst (λ (f : ℕ). TakesNothing m f) (sym c.function.ensures) (kept_run m (settings_of c.args.settings.now) c.in-Ok.kept c.in-Ok.ensures.kept).function
+
+pub initialise-requires-clause-reactor : goal.initialise-requires-clause-reactor
+initialise-requires-clause-reactor g c =
+    let m = module_of c.args.accepted.now in
+    subst (λ (o : Option ℕ). IfSome o (λ f. TakesNothing m f)) (sym c.reactor.ensures)
+    (kept_run m (settings_of c.args.settings.now) c.in-Ok.kept c.in-Ok.ensures.kept).reactor
 
 pub returns-in-Err-initialise-clause-made : goal.returns-in-Err-initialise-clause-made
 returns-in-Err-initialise-clause-made g c = λ bytes a.
