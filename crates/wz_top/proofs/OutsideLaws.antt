@@ -1,7 +1,6 @@
 -- A module is outside the profile for one cause at most; and the names of a valid module's exports differ.
-use Rattle.std.proofs.Common.{◌≡◌, ℕ, zero, suc, ◌+◌, ◌≤◌, ◌<◌, List, [], ◌∷◌, length, take, get_or, refl, sym, ap, subst, ◌∙◌, arith, inl, inr}
-use Rattle.std.specs.Prelude.{◌≢◌, ◌⊎◌, Option, Some, None, slice_get, All, AllPairs, IsSomeAnd}
-use Rattle.std.specs.List.{sum_by}
+use Rattle.std.proofs.Common.{◌≡◌, ℕ, zero, suc, ◌+◌, ◌≤◌, ◌<◌, List, [], ◌∷◌, length, take, get_or, refl, sym, ap, subst, ◌∙◌, arith}
+use Rattle.std.specs.Prelude.{◌≢◌, Option, Some, None, slice_get, All, AllPairs, IsSomeAnd}
 use Rattle.std.proofs.lemmas.List.{get_or-take, take-take}
 use Rattle.std.proofs.lemmas.List.Elements.{All-head, All-tail, All-get_or}
 use Rattle.std.proofs.lemmas.List.Sums.{sum_by-take-le}
@@ -16,7 +15,7 @@ use Rattle.wz_valid.specs.declared.faults.OutOfProfile.TheVariants.{ImportKind, 
 use Rattle.wz_valid.specs.Indices.{all_tables}
 use Rattle.wz_valid.specs.Items.{IsExportOk}
 use Rattle.wz_valid.specs.Validity.{IsValid}
-use Rattle.wz_valid.specs.Profile.{IsFunctionImport, IsOutside, IsOtherImport, HasLargeMemory, HasLargeTable, HasManyLocals, first_entries, local_counts, locals_limit}
+use Rattle.wz_valid.specs.Profile.{IsFunctionImport, IsOutside, IsOtherImport, HasLargeTable, HasManyLocals, first_entries, local_counts, locals_limit}
 
 -- ---- lists
 

@@ -15,7 +15,6 @@ use Rattle.wz_module.specs.Globals.{GlobalDef}
 use Rattle.wz_module.specs.Sections.{payload_of}
 use Rattle.wz_module.specs.Module.{Module}
 use Rattle.wz_decode_sections.specs.CodeSection.{IsCodeSection}
-use Rattle.wz_decode.specs.Spelling.{Spells}
 use Rattle.wz_decode.specs.Parts.{HoldsList}
 use Rattle.wz_valid.specs.declared.faults.Part.TheVariants as part
 use Rattle.wz_valid.specs.Items.{IsOnlyMemory}
@@ -29,7 +28,7 @@ use Rattle.wz_store.specs.Made.{StoreState}
 use Rattle.wz_snapshot.specs.declared.segment.ChosenSegment.{ChosenSegment}
 use Rattle.wz_snapshot.specs.Recorded.{chosen_segments, pages_together, recorded}
 use Rattle.wz_snapshot.specs.Laws.{ChosenAreFew, ChosenAreRanges, IsRangeOf}
-use Rattle.wz_machine.specs.State.{State, FunctionInstance, FunctionBody, ImportedBody, callable_of, callable_from, LastingParts, lasting_parts}
+use Rattle.wz_machine.specs.State.{State, FunctionInstance, FunctionBody, ImportedBody, callable_of, callable_from, LastingParts}
 use Rattle.wz_machine.specs.Entered.{entered_callable}
 use Rattle.wz_exports.specs.Kept.{KeptExports}
 use Rattle.wz_words.specs.Settings.{Settings}
@@ -40,8 +39,7 @@ use Rattle.wz_init.specs.States.{state_in}
 use Rattle.wz_init.specs.Instances.{Fresh, Instance, ElementUnfit, DataUnfit, NoInstance}
 use Rattle.wz_init.specs.Instantiation.{fresh}
 use Rattle.wz_init.specs.Run.{RunEnd, Returned, Stopped, run_standing, run}
-use Rattle.wz_init.specs.Ready.{Ready, Reached, phases, phase_of, phase_end, phases_run, ready_from, ready}
-use Rattle.wz_init.specs.Reached.{IsReachedOf}
+use Rattle.wz_init.specs.Ready.{Ready, Reached, phases, phase_end, phases_run, ready_from, ready}
 use Rattle.wz_init.specs.Laws.{FreshIsReached, RunIsReached}
 use Rattle.wz_rewrite.specs.OutputState.{HasRange, HasRanges}
 use Rattle.wz_rewrite.specs.Laws.{HasCode, SpellsElements, AreInOrder, InputSpellsElements, InputIsInOrder}

@@ -4,9 +4,8 @@ use Rattle.std.specs.Prelude.{Result, Ok, Err}
 use Rattle.wz_io.specs.Reading.{input_limit}
 use Rattle.wz_io.specs.World.{World, Told, Name, HasFailed, Rose, with_output}
 use Rattle.wz_io.specs.declared.files.Side.{Side}
-use Rattle.wz_io.specs.declared.files.Side.TheVariants.{Input, Output}
+use Rattle.wz_io.specs.declared.files.Side.TheVariants.{Output}
 use Rattle.wz_words.specs.declared.settings.Usage.{Usage as UsageFault}
-use Rattle.wz_words.specs.declared.settings.Usage.TheVariants as usage
 use Rattle.wz_words.specs.Settings.{Settings}
 use Rattle.wz_decode.specs.declared.fault.DecodeFault.TheVariants as decode
 use Rattle.wz_valid.specs.declared.faults.ValidFault.TheVariants as valid
@@ -14,13 +13,12 @@ use Rattle.wz_exports.specs.declared.fault.ExportFault.TheVariants as export
 use Rattle.wz_init.specs.declared.faults.InitFault.TheVariants as init
 use Rattle.wz_top.specs.Devices.{IsInputFrom, IsInputTold, HasInputFailed, HasWritten, HoldsPrefix, OnlyRead, IsReadFrom}
 use Rattle.wz_top.specs.Words.{input_name, output_name}
-use Rattle.wz_top.specs.Refusals.{usage_outcome}
 use Rattle.wz_top.specs.Verdict.{Verdict, Refuses, Gives, IsVerdict, IsRefusedBy, OneVerdict}
 use Rattle.wz_top.specs.Making.{IsMade}
-use Rattle.wz_top.specs.Asked.{Asked, Answers, Delivers, SettingsAsk, BytesAsk, asked_by, IsTold, IsAnswer, Ran, IsComplete, IsDoneOrNoMemory, InputFailed, OnInputFault, OnOutputFault, OnUnfinished}
+use Rattle.wz_top.specs.Asked.{Asked, Answers, Delivers, SettingsAsk, BytesAsk, asked_by, IsTold, IsAnswer, Ran, IsComplete, IsDoneOrNoMemory, OnInputFault, OnOutputFault}
 use Rattle.wz_top.specs.declared.outcome.Report.{Report}
 use Rattle.wz_top.specs.declared.outcome.Outcome.{Outcome}
-use Rattle.wz_top.specs.declared.outcome.Outcome.TheVariants.{Done, Usage, InputFault, InputTooLong, Decode, Valid, Profile, Exports, Init, OutputFault, NoMemory}
+use Rattle.wz_top.specs.declared.outcome.Outcome.TheVariants.{Done, Usage, InputFault, InputTooLong, Decode, Valid, Exports, Init, OutputFault, NoMemory}
 use Rattle.wz_top.proofs.InputLemmas.{one_input_from}
 
 nothing_read : (w : World) → OnlyRead w w

@@ -1,14 +1,13 @@
 -- A sample that words ask for is no larger than the limit on its number.
-use Rattle.std.proofs.Common.{◌≡◌, ℕ, ◌≤◌, List, [], ◌∷◌, ◌++◌, Bool, true, false, refl, sym, ap, subst, ◌∙◌, arith}
-use Rattle.std.specs.Prelude.{Option, Some, None, IfSome, Result, Ok, Err, nat_lt, if◌then◌else◌}
+use Rattle.std.proofs.Common.{◌≡◌, ℕ, ◌≤◌, List, [], ◌∷◌, ◌++◌, Bool, true, false, refl, subst}
+use Rattle.std.specs.Prelude.{Option, Some, None, IfSome, Ok, nat_lt, if◌then◌else◌}
 use Rattle.std.proofs.lemmas.Bool.{ltb-false}
-use Rattle.wz_words.specs.declared.settings.InputFrom.{InputFrom}
 use Rattle.wz_words.specs.declared.settings.InputFrom.TheVariants as input
 use Rattle.wz_words.specs.declared.settings.Usage.{Usage}
 use Rattle.wz_words.specs.declared.settings.Usage.TheVariants.{BadNumber}
-use Rattle.wz_words.specs.Options.{Valued, Output, Function, RenameFunction, Fuel, SampleNumber, decimal}
+use Rattle.wz_words.specs.Options.{Output, Function, RenameFunction, Fuel, SampleNumber, decimal}
 use Rattle.wz_words.specs.Parts.{Part, Operand, FlagPart, ValuedPart, UnknownPart, command_parts}
-use Rattle.wz_words.specs.Settings.{Settings, values_of, first_value, number_of_value, input_or_sample, operand_input, operand_in, asked, is_stream}
+use Rattle.wz_words.specs.Settings.{Settings, values_of, first_value, number_of_value, input_or_sample, operand_in, asked, is_stream}
 use Rattle.wz_words.specs.Faults.{settings, sample_limit, number_fault, fault_of, first_fault, or_later, unless_fault, is_repeated, is_sample_beside}
 use Rattle.wz_top.specs.Devices.{IsSmallSample}
 

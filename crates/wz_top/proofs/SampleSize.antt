@@ -1,9 +1,9 @@
 -- No sample is longer than the limit on inputs: a number takes ten bytes at most, and a store twenty-five.
-use Rattle.std.proofs.Common.{ℕ, zero, suc, ◌+◌, ◌*◌, ◌/◌, ◌%◌, ◌≤◌, List, [], ◌∷◌, ◌++◌, Bool, true, false, length, length-append, arith}
+use Rattle.std.proofs.Common.{ℕ, zero, suc, ◌+◌, ◌*◌, ◌/◌, ◌%◌, ◌≤◌, List, [], ◌∷◌, Bool, true, false, length, length-append, arith}
 use Rattle.std.specs.Prelude.{ℤ, pos, nat_lt, if◌then◌else◌, codes}
 use Rattle.wz_io.specs.Reading.{input_limit}
 use Rattle.wz_bytes.specs.Shortest.{unsigned_groups, shortest_unsigned, low_group, high_groups, is_one_group, signed_groups, shortest_signed}
-use Rattle.wz_gen.specs.Sample.{draw_at, address_of, stored_byte, sample_constant, sample_store, sample_stores, sample_body, sample_section, sample_export, sample_exports, sample_header, sample_definitions, sample_code, sample_bytes}
+use Rattle.wz_gen.specs.Sample.{draw_at, address_of, stored_byte, sample_constant, sample_store, sample_stores, sample_body, sample_section, sample_export, sample_exports, sample_definitions, sample_code, sample_bytes}
 
 short_choice : (test : Bool) (n : ℕ) (one other : List ℕ) → length one ≤ n → length other ≤ n → length (if test then one else other) ≤ n
 short_choice true n one other a b = a

@@ -1,6 +1,6 @@
 -- What the steps that go before the run answer.
 use Rattle.std.proofs.Common.{◌≡◌, ℕ, List, refl, sym, subst, inl, inr}
-use Rattle.std.specs.Prelude.{◌⊎◌, Option, Some, None, IsNone, IfSome, Result, Ok, Err, IsErrOf}
+use Rattle.std.specs.Prelude.{◌⊎◌, Option, Some, None, IsNone, IfSome, Ok, Err, IsErrOf}
 use Rattle.wz_module.specs.Module.{Module}
 use Rattle.wz_decode.specs.declared.fault.DecodeFault.{DecodeFault}
 use Rattle.wz_decode.specs.declared.fault.DecodeFault.TheVariants as decode

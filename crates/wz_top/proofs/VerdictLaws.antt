@@ -1,5 +1,5 @@
 -- Bytes ask for one thing at most.
-use Rattle.std.proofs.Common.{◌≡◌, ℕ, List, sym, ap, subst, ◌∙◌, inl, inr}
+use Rattle.std.proofs.Common.{◌≡◌, ℕ, sym, ap, subst, ◌∙◌, inl, inr}
 use Rattle.std.specs.Prelude.{Result, Ok, Err}
 use Rattle.wz_module.specs.Module.{Module}
 use Rattle.wz_decode.specs.declared.fault.DecodeFault.{DecodeFault}
@@ -12,7 +12,7 @@ use Rattle.wz_words.specs.Settings.{Settings}
 use Rattle.wz_exports.specs.Kept.{KeptExports}
 use Rattle.wz_exports.specs.declared.fault.ExportFault.{ExportFault}
 use Rattle.wz_init.specs.Ready.{Ready, Reached, StoppedIn, UnfitElement, UnfitData, NeverMade, ready}
-use Rattle.wz_top.specs.Verdict.{Verdict, Refuses, Gives, order_of, RunComes, RunAsks, ExportsAsk, ProfileAsks, ModuleAsks, IsVerdict, OneVerdict}
+use Rattle.wz_top.specs.Verdict.{Verdict, Refuses, order_of, RunComes, RunAsks, ExportsAsk, ProfileAsks, ModuleAsks, IsVerdict, OneVerdict}
 use Rattle.wz_top.specs.declared.outcome.Outcome.TheVariants.{Decode, Valid, Profile, Exports}
 use Rattle.wz_top.proofs.OutsideLaws.{one_outside}
 

@@ -16,7 +16,7 @@ use Rattle.wz_top.specs.Words.{input_name, output_name}
 use Rattle.wz_top.specs.Verdict.{Verdict, Refuses, Gives, IsVerdict}
 use Rattle.wz_top.specs.declared.outcome.Report.{Report}
 use Rattle.wz_top.specs.declared.outcome.Outcome.{Outcome}
-use Rattle.wz_top.specs.declared.outcome.Outcome.TheVariants.{Done, Usage, InputFault, InputTooLong, Decode, Valid, Profile, Exports, Init, OutputFault, NoMemory}
+use Rattle.wz_top.specs.declared.outcome.Outcome.TheVariants.{Done, Usage, InputFault, InputTooLong, Decode, Valid, Exports, Init, OutputFault, NoMemory}
 
 -- an answer, or an output with its report
 pub data Asked : Type 0 where

@@ -1,5 +1,4 @@
 -- The outcome for each fault of a step. Want of memory is one outcome, wherever it was met.
-use Rattle.std.specs.Prelude.{ℕ}
 use Rattle.wz_words.specs.declared.settings.Usage.{Usage}
 use Rattle.wz_words.specs.declared.settings.Usage.TheVariants as usage
 use Rattle.wz_decode.specs.declared.fault.DecodeFault.{DecodeFault}

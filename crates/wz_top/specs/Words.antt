@@ -1,5 +1,5 @@
 -- What the settings of a run name. All of it is this tool's own.
-use Rattle.std.specs.Prelude.{ℕ, Bool, true, false, ◌||◌, List, Option, None, Some, Result, Ok, Err}
+use Rattle.std.specs.Prelude.{Bool, true, false, ◌||◌, Option, None, Some, Result, Ok, Err}
 use Rattle.wz_io.specs.World.{Name, Standard, File}
 use Rattle.wz_words.specs.declared.settings.InputFrom.{InputFrom}
 use Rattle.wz_words.specs.declared.settings.InputFrom.TheVariants as input

@@ -1,4 +1,4 @@
-use Rattle.std.proofs.Common.{◌≡◌, ℕ, ◌<◌, ◌≤◌, ◌^◌, List, length, refl, sym, ap, subst, ◌∙◌, arith}
+use Rattle.std.proofs.Common.{◌≡◌, ◌<◌, ◌^◌, length, sym, ap, subst, ◌∙◌, arith}
 use Rattle.std.specs.Prelude.{sum}
 use Rattle.std.proofs.lemmas.List.Sums.{sum-map}
 use Rattle.wz_io.specs.World.{Name, HasFailed}
@@ -6,7 +6,7 @@ use Rattle.wz_io.specs.declared.files.Side.TheVariants.{Output}
 use Rattle.wz_module.specs.Meaning.{module_of}
 use Rattle.wz_words.specs.Settings.{settings_of}
 use Rattle.wz_store.specs.State.{pages_of}
-use Rattle.wz_snapshot.specs.Recorded.{RecordedState, recorded, chosen_segments}
+use Rattle.wz_snapshot.specs.Recorded.{RecordedState, chosen_segments}
 use Rattle.wz_init.specs.States.{state_in}
 use Rattle.wz_rewrite.specs.OutputState.{HasRanges, output_state}
 use Rattle.wz_rewrite.specs.Output.{output_bytes}

@@ -1,4 +1,4 @@
-use Rattle.std.proofs.Common.{ℕ, List, ◌++◌, subst}
+use Rattle.std.proofs.Common.{ℕ, List, subst}
 use Rattle.std.specs.Prelude.{Option, OnOk, OnErr, codes}
 use Rattle.wz_code.specs.Numeric.{opcode_of}
 use Rattle.wz_top.specs.Saying.{SaysAll, SaysFirst}

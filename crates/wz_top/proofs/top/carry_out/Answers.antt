@@ -1,6 +1,5 @@
 use Rattle.std.proofs.Common.{ℕ, ◌≤◌, List, length, subst, sym}
 use Rattle.wz_io.specs.Reading.{input_limit}
-use Rattle.wz_module.specs.Meaning.{module_of}
 use Rattle.wz_words.specs.Settings.{settings_of}
 use Rattle.wz_top.specs.Devices.{IsInputFrom}
 use Rattle.wz_top.proofs.RunLemmas.{ran_refused, ran_made}
