@@ -16,6 +16,9 @@ use Rattle.wz_valid_code.specs.Context.{function_type, type_by_number}
 use Rattle.wz_valid.specs.Indices.{function_import, imported_functions, all_functions}
 use Rattle.wz_valid.specs.Contexts.{context_of}
 use Rattle.wz_words.specs.Settings.{Settings}
+use Rattle.wz_init.specs.declared.order.RunOrder.{RunOrder}
+use Rattle.wz_top.specs.Orders.{IsPlainFunction, IsPlainWhereGiven, IsRunnable}
+use Rattle.wz_top.specs.Verdict.{order_of}
 use Rattle.wz_exports.specs.declared.fault.ExportFault.{ExportFault}
 use Rattle.wz_exports.specs.Functions.{import_signature, signatures_of, signature_at, is_empty_type, takes_nothing}
 use Rattle.wz_exports.specs.Names.{target_named}
@@ -69,10 +72,7 @@ numbered_type : (m : Module) (o : Option ℕ) → option_and_then (λ number. sl
 numbered_type m None = refl
 numbered_type m (Some number) = refl
 
-abbrev pub TakesNothing : Module → ℕ → Type 0
-TakesNothing m index = function_type (context_of m) index ≡ Some nothing_type
-
-takes : (m : Module) (index : ℕ) → takes_nothing m index ≡ true → TakesNothing m index
+takes : (m : Module) (index : ℕ) → takes_nothing m index ≡ true → IsPlainFunction m index
 takes m index e =
     sym (ap (λ (xs : List ℕ). type_by_number (context_of m) (slice_get xs index)) (same_functions m))
     ∙ sym (numbered_type m (slice_get (signatures_of m) index)) ∙ empty_type (signature_at m index) e
@@ -89,10 +89,10 @@ if_takes : (test : Bool) (index given : ℕ) (fault : ExportFault) → (if test 
 if_takes true index given fault e = (refl, cc)
 if_takes false index given fault e = absurd cc
 
-function_takes : (m : Module) (name : List ℕ) (o : Option ExportTarget) (index : ℕ) → function_at m name o ≡ found index → TakesNothing m index
+function_takes : (m : Module) (name : List ℕ) (o : Option ExportTarget) (index : ℕ) → function_at m name o ≡ found index → IsPlainFunction m index
 function_takes m name None index e = absurd cc
 function_takes m name (Some (target.Func other)) index e =
-    let is = if_takes (takes_nothing m other) other index _ e in subst (λ (n : ℕ). TakesNothing m n) is.1 (takes m other is.0)
+    let is = if_takes (takes_nothing m other) other index _ e in subst (λ (n : ℕ). IsPlainFunction m n) is.1 (takes m other is.0)
 function_takes m name (Some (target.Table other)) index e = absurd cc
 function_takes m name (Some (target.Memory other)) index e = absurd cc
 function_takes m name (Some (target.Global other)) index e = absurd cc
@@ -100,36 +100,35 @@ function_takes m name (Some (target.Global other)) index e = absurd cc
 abbrev reactor_found : Option ℕ → Result (Option ℕ) ExportFault
 reactor_found reactor = Ok reactor
 
-some_takes : (m : Module) (r : Result ℕ ExportFault) (reactor : Option ℕ) → ((index : ℕ) → r ≡ found index → TakesNothing m index)
-    → some_function r ≡ reactor_found reactor → IfSome reactor (λ f. TakesNothing m f)
+some_takes : (m : Module) (r : Result ℕ ExportFault) (reactor : Option ℕ) → ((index : ℕ) → r ≡ found index → IsPlainFunction m index)
+    → some_function r ≡ reactor_found reactor → IsPlainWhereGiven m reactor
 some_takes m (Ok index) reactor takes_it e =
-    let same : Some index ≡ reactor = cc in subst (λ (o : Option ℕ). IfSome o (λ f. TakesNothing m f)) same (takes_it index refl)
+    let same : Some index ≡ reactor = cc in subst (λ (o : Option ℕ). IsPlainWhereGiven m o) same (takes_it index refl)
 some_takes m (Err fault) reactor takes_it e = absurd cc
 
 reactor_takes : (m : Module) (s : Settings) (test : Bool) (reactor : Option ℕ)
-    → (if test then some_function (function_named m reactor_name) else Ok None) ≡ reactor_found reactor → IfSome reactor (λ f. TakesNothing m f)
+    → (if test then some_function (function_named m reactor_name) else Ok None) ≡ reactor_found reactor → IsPlainWhereGiven m reactor
 reactor_takes m s true reactor e =
     some_takes m (function_named m reactor_name) reactor (λ index is. function_takes m reactor_name (target_named reactor_name m.exports) index is) e
 reactor_takes m s false reactor e =
-    let same : None ≡ reactor = cc in subst (λ (o : Option ℕ). IfSome o (λ f. TakesNothing m f)) same tt
+    let same : None ≡ reactor = cc in subst (λ (o : Option ℕ). IsPlainWhereGiven m o) same tt
 
-pub record AreRunnable (m : Module) (k : KeptExports) : Type 0 where
-  pub function : TakesNothing m k.function
-  pub reactor : IfSome k.reactor (λ f. TakesNothing m f)
+abbrev order_from : ℕ → KeptExports → RunOrder
+order_from fuel k = record { reactor = k.reactor; function = k.function; fuel = fuel }
 
 same_kept : (fault : Option ExportFault) (given k : KeptExports) → unless_misnamed fault given ≡ kept_are k → given ≡ k
 same_kept None given k e = cc
 same_kept (Some fault) given k e = absurd cc
 
 beside_runs : (m : Module) (s : Settings) (function : Result ℕ ExportFault) (reactor : Result (Option ℕ) ExportFault) (k : KeptExports)
-    → function_named m s.function ≡ function → reactor_in m s ≡ reactor → kept_beside m s function reactor ≡ kept_are k → AreRunnable m k
+    → function_named m s.function ≡ function → reactor_in m s ≡ reactor → kept_beside m s function reactor ≡ kept_are k → IsRunnable m (order_from s.fuel k)
 beside_runs m s (Err fault) reactor k f r e = absurd cc
 beside_runs m s (Ok function) (Err fault) k f r e = absurd cc
 beside_runs m s (Ok function) (Ok reactor) k f r e =
-    subst (λ (x : KeptExports). AreRunnable m x)
+    subst (λ (x : KeptExports). IsRunnable m (order_from s.fuel x))
     (same_kept (first_misnamed s m.exports s.renames) (record { entries = kept_exports s m.exports; function = function; reactor = reactor }) k e)
-    (record { function = function_takes m s.function (target_named s.function m.exports) function f; reactor = reactor_takes m s s.reactor reactor r })
+    (record { init_function = function_takes m s.function (target_named s.function m.exports) function f; reactor_function = reactor_takes m s s.reactor reactor r })
 
-pub kept_run : (m : Module) (s : Settings) (k : KeptExports) → kept m s ≡ Ok k → AreRunnable m k
+pub kept_run : (m : Module) (s : Settings) (k : KeptExports) → kept m s ≡ Ok k → IsRunnable m (order_of s k)
 unfolding kept
 kept_run m s k e = beside_runs m s (function_named m s.function) (reactor_in m s) k refl refl e

@@ -1,8 +1,7 @@
 //! Stands in for the run until `wz_init` has it: it gives up, and its contract is the run's.
 
-ghost use Rattle.std.specs.Prelude.{◌≡◌, [], Some, IfSome, IfOk, IfErr};
-ghost use Rattle.wz_valid_code.specs.Context.{function_type};
-ghost use Rattle.wz_valid.specs.Contexts.{context_of};
+ghost use Rattle.std.specs.Prelude.{IfOk, IfErr};
+ghost use Rattle.wz_top.specs.Orders.{IsRunnable};
 ghost use Rattle.wz_module.specs.Meaning.{module_of};
 ghost use Rattle.wz_valid.specs.Validity.{IsValid};
 ghost use Rattle.wz_valid.specs.Profile.{IsInProfile};
@@ -21,11 +20,7 @@ pub fn initialise<'m, M: Linear>(
 ) -> Result<Reached<'m, M>, InitFault>
     requires valid { IsValid (module_of «module».now) }
     requires profile { IsInProfile (module_of «module».now) }
-    requires function { function_type (context_of (module_of «module».now)) order.now.function
-        ≡ Some (record { params = []; results = [] }) }
-    requires reactor { IfSome order.now.reactor (λ f.
-        function_type (context_of (module_of «module».now)) f
-        ≡ Some (record { params = []; results = [] })) }
+    requires runnable { IsRunnable (module_of «module».now) order.now }
     ensures reached { let m = module_of «module».now in
         IfOk result (λ r. IsReached m order.now r.store r.ticks) }
     ensures refused { let m = module_of «module».now in

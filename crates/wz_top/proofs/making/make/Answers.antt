@@ -1,5 +1,4 @@
-use Rattle.std.proofs.Common.{◌≡◌, ℕ, subst, sym}
-use Rattle.std.specs.Prelude.{Option, IfSome}
+use Rattle.std.proofs.Common.{◌≡◌, subst, sym}
 use Rattle.wz_module.specs.Meaning.{module_of}
 use Rattle.wz_words.specs.Settings.{settings_of}
 use Rattle.wz_init.specs.declared.order.RunOrder.{RunOrder}
@@ -7,7 +6,8 @@ use Rattle.wz_init.specs.Ready.{IsRefused}
 use Rattle.wz_top.specs.Verdict.{IsRefusedBy, order_of}
 use Rattle.wz_top.specs.declared.outcome.Outcome.{Outcome}
 use Rattle.wz_top.proofs.OutsideLaws.{names_differ}
-use Rattle.wz_top.proofs.RunnableLemmas.{TakesNothing, kept_run}
+use Rattle.wz_top.specs.Orders.{IsRunnable}
+use Rattle.wz_top.proofs.RunnableLemmas.{kept_run}
 use Rattle.wz_top.proofs.TurnLemmas.{export_refused, run_refused}
 use Rattle.wz_top.proofs.MakingLemmas.{refused_made}
 use Rattle.wz_top.proofs.making.make.Goals as goal
@@ -22,16 +22,15 @@ returns-in-Err-clause-made g c = λ bytes a.
     (subst (λ (o : Outcome). IsRefusedBy s bytes o) (sym c.export_outcome.ensures)
     (export_refused s bytes (module_of c.args.accepted.now) c.in-Err.fault a c.in-Err.ensures.fault))
 
-pub initialise-requires-clause-function : goal.initialise-requires-clause-function
-initialise-requires-clause-function g c =
+pub initialise-requires-clause-runnable : goal.initialise-requires-clause-runnable
+initialise-requires-clause-runnable g c =
+    let s = settings_of c.args.settings.now in
     let m = module_of c.args.accepted.now in
-    subst (λ (f : ℕ). TakesNothing m f) (sym c.function.ensures) (kept_run m (settings_of c.args.settings.now) c.in-Ok.kept c.in-Ok.ensures.kept).function
-
-pub initialise-requires-clause-reactor : goal.initialise-requires-clause-reactor
-initialise-requires-clause-reactor g c =
-    let m = module_of c.args.accepted.now in
-    subst (λ (o : Option ℕ). IfSome o (λ f. TakesNothing m f)) (sym c.reactor.ensures)
-    (kept_run m (settings_of c.args.settings.now) c.in-Ok.kept c.in-Ok.ensures.kept).reactor
+    let order : RunOrder = record { reactor = c.reactor.result; function = c.function.result; fuel = c.args.settings.now.fuel } in
+    let reactor = c.reactor.ensures in
+    let function = c.function.ensures in
+    let same : order_of s c.in-Ok.kept ≡ order = cc in
+    subst (λ (o : RunOrder). IsRunnable m o) same (kept_run m s c.in-Ok.kept c.in-Ok.ensures.kept)
 
 pub returns-in-Err-initialise-clause-made : goal.returns-in-Err-initialise-clause-made
 returns-in-Err-initialise-clause-made g c = λ bytes a.
