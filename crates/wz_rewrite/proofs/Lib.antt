@@ -7,3 +7,12 @@ pub mod PieceLaws
 pub mod ExportLemmas
 pub mod GlobalLemmas
 pub mod SegmentLemmas
+pub mod NumberLemmas
+pub mod ValidLemmas
+pub mod ItemLemmas
+pub mod ConstantLemmas
+pub mod SizeLemmas
+pub mod ElementLemmas
+pub mod SlotLemmas
+pub mod BodyLemmas
+pub mod ContextLemmas

@@ -2,6 +2,7 @@
 //! body is empty.
 
 ghost use Rattle.wz_rewrite.specs.Laws.{PiecesAreOutput, PiecesAreChosen, PiecesAreKept};
+ghost use Rattle.wz_rewrite.specs.ValidOutput.{OutputIsValid};
 
 /// The pieces, with each range read from its memory, are the output's bytes; their ranges are the
 /// chosen ones; and what they have of the input is just the contents that stay.
@@ -10,3 +11,12 @@ pub fn pieces_are_output()
     ensures ranges { PiecesAreChosen }
     ensures kept { PiecesAreKept }
 {}
+
+/// The output of a valid module within the profile is one too. It has the kept exports, and
+/// nothing runs when it starts.
+pub fn output_is_valid()
+    ensures { OutputIsValid }
+{
+    // each function that a body names is named elsewhere in the output, or declared anew
+    wz_exports::laws::references_are_found();
+}
