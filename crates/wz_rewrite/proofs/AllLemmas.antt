@@ -1,5 +1,5 @@
 -- What holds of each item of two lists, one behind the other.
-use Rattle.std.proofs.Common.{List, ◌++◌, length, take, drop, subst, refl}
+use Rattle.std.proofs.Common.{List, ◌++◌, length, subst, refl}
 use Rattle.std.specs.List.{All}
 use Rattle.std.proofs.lemmas.List.{take_at, drop_at}
 use Rattle.std.proofs.lemmas.List.Elements.{All-take, All-drop}

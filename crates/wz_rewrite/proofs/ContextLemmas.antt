@@ -28,7 +28,8 @@ use Rattle.wz_rewrite.specs.ValidOutput.{HasTypesOf, FitsGlobal, IsWithinMaximum
 use Rattle.wz_rewrite.proofs.NumberLemmas.{Has, AreIn, or-cases, has-first, has-second, in-both, flat-agree, segment-same, target-same}
 use Rattle.wz_rewrite.proofs.ConstantLemmas.{begun-refs, begun-kinds}
 use Rattle.wz_rewrite.proofs.SizeLemmas.{grown-count}
-use Rattle.wz_rewrite.proofs.ElementLemmas.{dropped-passive, kept-refs, kept-kinds, declares}
+use Rattle.wz_rewrite.proofs.ContentLemmas.{dropped_passive}
+use Rattle.wz_rewrite.proofs.ElementLemmas.{kept-refs, kept-kinds, declares}
 use Rattle.wz_rewrite.proofs.SlotLemmas.{slots-many}
 
 abbrev pub written : Module → RecordedState → List Memory → KeptExports → Module
@@ -65,7 +66,7 @@ module _ (m : Module) (r : RecordedState) (memories : List Memory) (k : KeptExpo
 
   old-in-elements : AreIn (flat_map referred_in_segment m.elements) (flat_map referred_in_segment out.elements)
   old-in-elements f h =
-      let old = subst (λ (ns : List ℕ). Has f ns) (sym (kept-refs dropped 0 m.elements (dropped-passive r.empty_elements 0 m.elements))) h in
+      let old = subst (λ (ns : List ℕ). Has f ns) (sym (kept-refs dropped 0 m.elements (dropped_passive m (output_state m r memories k)))) h in
       subst (λ (ns : List ℕ). Has f ns) (sym (flat_map-append referred_in_segment old_elements new_elements))
       (has-first f (flat_map referred_in_segment old_elements) (flat_map referred_in_segment new_elements) old)
 

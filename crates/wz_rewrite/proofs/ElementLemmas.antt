@@ -1,88 +1,34 @@
 -- The element segments of the output: the old ones, of which dropped ones are declarative, and the one that declares functions.
-use Rattle.std.proofs.Common.{◌≡◌, ℕ, zero, suc, ◌+◌, ◌≤◌, List, [], ◌∷◌, ◌++◌, map, Some, inl, inr, Bool, true, false, IsTrue, ◌==◌, cond}
-use Rattle.std.proofs.Common.{refl, sym, ap, subst, ◌∙◌, slice_get, All, arith}
+use Rattle.std.proofs.Common.{◌≡◌, ℕ, ◌+◌, List, [], ◌∷◌, ◌++◌, map, Bool, true, false, IsTrue, cond}
+use Rattle.std.proofs.Common.{refl, sym, ap, subst, ◌∙◌, slice_get, All}
 use Rattle.std.specs.Prelude.{is_some}
 use Rattle.std.specs.List.{flat_map}
-use Rattle.std.proofs.lemmas.Bool.{eqb-true}
 use Rattle.std.proofs.lemmas.List.Elements.{All-nil, All-cons, All-head, All-tail}
 use Rattle.wz_types.specs.declared.types.RefKind.{RefKind}
 use Rattle.wz_types.specs.declared.types.ValType.TheVariants.{FuncRef}
-use Rattle.wz_types.proofs.SameTypeLemmas.{and-parts}
 use Rattle.wz_code.specs.Trees.{Code}
-use Rattle.wz_module.specs.Elements.{ElemMode, PassiveElem, ActiveElem, DeclarativeElem, Elem, function_reference}
+use Rattle.wz_module.specs.Elements.{ElemMode, PassiveElem, Elem, function_reference}
 use Rattle.wz_valid_code.specs.Context.{TypingContext}
 use Rattle.wz_valid_code.specs.Typing.{IsConstant}
 use Rattle.wz_valid.specs.DeclaredFunctions.{referred_in, referred_in_mode, referred_in_segment}
+use Rattle.wz_encode.specs.Laws.{DroppedArePassive}
 use Rattle.wz_encode.specs.Elements.{is_dropped, as_declarative, kept_elements, declaring, declarations}
-use Rattle.wz_rewrite.specs.Dropped.{was_emptied, is_passive, was_dropped, is_empty_at, dropped_from}
-use Rattle.wz_rewrite.proofs.NumberLemmas.{Has, AreIn, or-cases, has-first, has-here, has-later}
+use Rattle.wz_rewrite.proofs.NumberLemmas.{Has, AreIn, has-first, has-here, has-later}
 use Rattle.wz_rewrite.proofs.ConstantLemmas.{function-ok}
-
--- ---- those of dropped numbers are passive
-
-dropped-low : (marks : List Bool) (n : ℕ) (es : List Elem) (k : ℕ) → IsTrue (is_dropped (dropped_from marks n es) k) → n ≤ k
-dropped-low marks n [] k h = absurd cc
-dropped-low marks n (e ∷ es) k h = by (was_dropped e (is_empty_at marks n)) h (dropped-low marks (n + 1) es k) where
-  by : (b : Bool) → IsTrue (is_dropped (cond b (n ∷ dropped_from marks (n + 1) es) (dropped_from marks (n + 1) es)) k)
-      → (IsTrue (is_dropped (dropped_from marks (n + 1) es) k) → n + 1 ≤ k) → n ≤ k
-  by true h more = elim (or-cases (n == k) (is_dropped (dropped_from marks (n + 1) es) k) h) [
-    | inl same ↦ let e : n ≡ k = eqb-true n k same in omega (arith, e)
-    | inr later ↦ let above = more later in omega (arith, above)
-  ]
-  by false h more = let above = more h in omega (arith, above)
-
-abbrev pub ArePassive : List ℕ → ℕ → List Elem → Type 0
-ArePassive dropped n es = (i : ℕ) (e : Elem) → slice_get es i ≡ Some e → IsTrue (is_dropped dropped (n + i)) → IsTrue (is_passive e.mode)
-
-pub dropped-passive : (marks : List Bool) (n : ℕ) (es : List Elem) → ArePassive (dropped_from marks n es) n es
-dropped-passive marks n [] i e here h = absurd cc
-dropped-passive marks n (x ∷ es) zero e here h = by (was_dropped x (is_empty_at marks n)) refl h where
-  by : (b : Bool) → was_dropped x (is_empty_at marks n) ≡ b → IsTrue (is_dropped (cond b (n ∷ dropped_from marks (n + 1) es) (dropped_from marks (n + 1) es)) (n + 0))
-      → IsTrue (is_passive e.mode)
-  by true was h =
-      let same : x ≡ e = cc in
-      subst (λ (y : Elem). IsTrue (is_passive y.mode)) same (and-parts (is_passive x.mode) (was_emptied x.init (is_empty_at marks n)) was).0
-  by false was h = let above = dropped-low marks (n + 1) es (n + 0) h in absurd (omega (arith, above))
-dropped-passive marks n (x ∷ es) (suc i) e here h =
-    by (was_dropped x (is_empty_at marks n)) h (dropped-passive marks (n + 1) es i e here) where
-      tail : List ℕ
-      tail = dropped_from marks (n + 1) es
-
-      moved : IsTrue (is_dropped (dropped_from marks (n + 1) es) (n + suc i)) → IsTrue (is_dropped (dropped_from marks (n + 1) es) (n + 1 + i))
-      moved h = subst (λ (k : ℕ). IsTrue (is_dropped (dropped_from marks (n + 1) es) k)) (omega arith) h
-
-      by : (b : Bool) → IsTrue (is_dropped (cond b (n ∷ dropped_from marks (n + 1) es) (dropped_from marks (n + 1) es)) (n + suc i))
-          → (IsTrue (is_dropped (dropped_from marks (n + 1) es) (n + 1 + i)) → IsTrue (is_passive e.mode)) → IsTrue (is_passive e.mode)
-      by true h more = elim (or-cases (n == n + suc i) (is_dropped (dropped_from marks (n + 1) es) (n + suc i)) h) [
-        | inl same ↦ let e : n ≡ n + suc i = eqb-true n (n + suc i) same in absurd (omega (arith, e))
-        | inr later ↦ more (moved later)
-      ]
-      by false h more = more (moved h)
-
-passive-tail : (dropped : List ℕ) (n : ℕ) (e : Elem) (es : List Elem) → ArePassive dropped n (e ∷ es) → ArePassive dropped (n + 1) es
-passive-tail dropped n e es all i x here h = all (suc i) x here (subst (λ (k : ℕ). IsTrue (is_dropped dropped k)) (omega arith) h)
-
-passive-head : (dropped : List ℕ) (n : ℕ) (e : Elem) (es : List Elem) → ArePassive dropped n (e ∷ es) → is_dropped dropped n ≡ true → IsTrue (is_passive e.mode)
-passive-head dropped n e es all h = all 0 e refl (subst (λ (k : ℕ). IsTrue (is_dropped dropped k)) (omega arith) h)
 
 -- ---- what they name, their kinds, and what holds of each
 
-passive-none : (mode : ElemMode) → IsTrue (is_passive mode) → [] ≡ referred_in_mode mode
-passive-none PassiveElem h = refl
-passive-none (ActiveElem table offset) h = absurd cc
-passive-none DeclarativeElem h = absurd cc
-
-one-same : (b : Bool) (e : Elem) → (b ≡ true → IsTrue (is_passive e.mode)) → referred_in_segment (cond b (as_declarative e) e) ≡ referred_in_segment e
-one-same true e passive = ap (λ (ns : List ℕ). ns ++ flat_map referred_in e.init) (passive-none e.mode (passive refl))
+one-same : (b : Bool) (e : Elem) → (b ≡ true → e.mode ≡ PassiveElem) → referred_in_segment (cond b (as_declarative e) e) ≡ referred_in_segment e
+one-same true e passive = ap (λ (mode : ElemMode). referred_in_mode mode ++ flat_map referred_in e.init) (sym (passive refl))
 one-same false e passive = refl
 
-pub kept-refs : (dropped : List ℕ) (n : ℕ) (es : List Elem) → ArePassive dropped n es
+-- what a dropped passive segment names it names as a declarative one too
+pub kept-refs : (dropped : List ℕ) (n : ℕ) (es : List Elem) → DroppedArePassive dropped n es
     → flat_map referred_in_segment (kept_elements dropped n es) ≡ flat_map referred_in_segment es
 kept-refs dropped n [] passive = refl
 kept-refs dropped n (e ∷ es) passive =
-    ap (λ (ns : List ℕ). ns ++ flat_map referred_in_segment (kept_elements dropped (n + 1) es))
-    (one-same (is_dropped dropped n) e (passive-head dropped n e es passive))
-    ∙ ap (λ (ns : List ℕ). referred_in_segment e ++ ns) (kept-refs dropped (n + 1) es (passive-tail dropped n e es passive))
+    ap (λ (ns : List ℕ). ns ++ flat_map referred_in_segment (kept_elements dropped (n + 1) es)) (one-same (is_dropped dropped n) e passive.0)
+    ∙ ap (λ (ns : List ℕ). referred_in_segment e ++ ns) (kept-refs dropped (n + 1) es passive.1)
 
 one-kind : (b : Bool) (e : Elem) (kinds : List RefKind) → (cond b (as_declarative e) e).kind ∷ kinds ≡ e.kind ∷ kinds
 one-kind true e kinds = refl

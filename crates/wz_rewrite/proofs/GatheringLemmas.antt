@@ -1,13 +1,13 @@
 -- Bytes that were written in part, and more bytes behind them.
-use Rattle.std.proofs.Common.{◌≡◌, ℕ, ◌+◌, ◌-◌, ◌≤◌, ◌<◌, List, ◌++◌, length, take, sym, ap, subst, ◌∙◌, arith, append_assoc, refl, append-nil}
+use Rattle.std.proofs.Common.{◌≡◌, ℕ, ◌+◌, ◌-◌, ◌≤◌, List, ◌++◌, length, take, sym, ap, subst, ◌∙◌, arith, append_assoc, refl, append-nil}
 use Rattle.std.proofs.lemmas.List.{length-append, take-append-le, take_all}
 use Rattle.std.proofs.Math.Seq.{take-add}
 use Rattle.std.proofs.lemmas.List.{drop-drop, drop_at, take_at, drop-take, take-take, take-append-drop, length-take, length-drop}
-use Rattle.std.specs.Prelude.{Option, None, Some, drop, [], min, Result, Ok, Err, OnErr}
+use Rattle.std.specs.Prelude.{Option, drop, [], Result, Ok, Err, OnErr}
 use Rattle.std.specs.Option.{option_map}
-use Rattle.wz_io.specs.World.{World, Current, Told, Name, Rose, IsOpen, IsOpenOn}
+use Rattle.wz_io.specs.World.{World, Current, Told, IsOpen, IsOpenOn}
 use Rattle.wz_io.specs.Calls.{current_name, with_failure}
-use Rattle.wz_io.specs.Writing.{told_after_writes, WritesAll, WritesSome}
+use Rattle.wz_io.specs.Writing.{told_after_writes, WritesAll}
 use Rattle.wz_io.proofs.ToldLemmas.{writes-joined}
 use Rattle.wz_io.specs.declared.files.Side.TheVariants.{Output}
 use Rattle.wz_linear.specs.Bytes.{part}

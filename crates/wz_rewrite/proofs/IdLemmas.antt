@@ -1,5 +1,5 @@
 -- Cases on the id of a section: those that the output writes anew, and the others.
-use Rattle.std.proofs.Common.{◌≡◌, ℕ, Bool, true, false, List, [], ◌++◌, ◌∷◌, sym, ap, subst, ◌∙◌, inl, inr, append_assoc, append-nil, refl}
+use Rattle.std.proofs.Common.{◌≡◌, ℕ, false, List, [], ◌++◌, ◌∷◌, sym, ap, subst, ◌∙◌, inl, inr, append-nil, refl}
 use Rattle.std.specs.Prelude.{◌==◌}
 use Rattle.std.specs.List.{flat_map}
 use Rattle.std.proofs.lemmas.Bool.{cases_Bool, eqb-true}
@@ -19,25 +19,25 @@ pub by_id : (P : ℕ → Type 0) → P 5 → P 6 → P 7 → P 8 → P 9 → P 1
 by_id P memories globals exports start elements datas count others id = elim (cases_Bool (id == 5)) [
   | inl e ↦ subst P (sym (eqb-true id 5 e)) memories
   | inr e5 ↦ elim (cases_Bool (id == 6)) [
-      | inl e ↦ subst P (sym (eqb-true id 6 e)) globals
-      | inr e6 ↦ elim (cases_Bool (id == 7)) [
-          | inl e ↦ subst P (sym (eqb-true id 7 e)) exports
-          | inr e7 ↦ elim (cases_Bool (id == 8)) [
-              | inl e ↦ subst P (sym (eqb-true id 8 e)) start
-              | inr e8 ↦ elim (cases_Bool (id == 9)) [
-                  | inl e ↦ subst P (sym (eqb-true id 9 e)) elements
-                  | inr e9 ↦ elim (cases_Bool (id == 11)) [
-                      | inl e ↦ subst P (sym (eqb-true id 11 e)) datas
-                      | inr e11 ↦ elim (cases_Bool (id == 12)) [
-                          | inl e ↦ subst P (sym (eqb-true id 12 e)) count
-                          | inr e12 ↦
-                              others id (record { memories = e5; globals = e6; exports = e7; start = e8; elements = e9; datas = e11; count = e12 })
-                        ]
-                    ]
-                ]
+    | inl e ↦ subst P (sym (eqb-true id 6 e)) globals
+    | inr e6 ↦ elim (cases_Bool (id == 7)) [
+      | inl e ↦ subst P (sym (eqb-true id 7 e)) exports
+      | inr e7 ↦ elim (cases_Bool (id == 8)) [
+        | inl e ↦ subst P (sym (eqb-true id 8 e)) start
+        | inr e8 ↦ elim (cases_Bool (id == 9)) [
+          | inl e ↦ subst P (sym (eqb-true id 9 e)) elements
+          | inr e9 ↦ elim (cases_Bool (id == 11)) [
+            | inl e ↦ subst P (sym (eqb-true id 11 e)) datas
+            | inr e11 ↦ elim (cases_Bool (id == 12)) [
+              | inl e ↦ subst P (sym (eqb-true id 12 e)) count
+              | inr e12 ↦
+                  others id (record { memories = e5; globals = e6; exports = e7; start = e8; elements = e9; datas = e11; count = e12 })
             ]
+          ]
         ]
+      ]
     ]
+  ]
 ]
 
 -- ---- lists of lists

@@ -7,6 +7,11 @@ pub mod PieceLaws
 pub mod ExportLemmas
 pub mod GlobalLemmas
 pub mod SegmentLemmas
+pub mod PreparedLemmas
+pub mod LookupLemmas
+pub mod OrderLemmas
+pub mod ContentLemmas
+pub mod SpellLaws
 pub mod NumberLemmas
 pub mod ValidLemmas
 pub mod ItemLemmas
@@ -16,3 +21,4 @@ pub mod ElementLemmas
 pub mod SlotLemmas
 pub mod BodyLemmas
 pub mod ContextLemmas
+pub mod StartLemmas

@@ -1,9 +1,8 @@
 -- The pieces of the output: what they have of the input, which ranges they have, and that they are the output.
-use Rattle.std.proofs.Common.{◌≡◌, ℕ, ◌+◌, Bool, true, false, List, [], ◌∷◌, ◌++◌, length, map, Option, Some, None, sym, ap, subst, ◌∙◌, refl, inl, inr, append_assoc, zero-add, lit<, arith}
-use Rattle.std.specs.Prelude.{not, ◌&&◌, ◌||◌, ◌==◌, if◌then◌else◌}
+use Rattle.std.proofs.Common.{◌≡◌, ℕ, ◌+◌, Bool, true, false, List, [], ◌∷◌, ◌++◌, length, map, Option, Some, None, sym, ap, subst, ◌∙◌, refl, inl, inr, append_assoc, zero-add, lit<}
+use Rattle.std.specs.Prelude.{◌==◌, if◌then◌else◌}
 use Rattle.std.specs.List.{flat_map}
 use Rattle.std.proofs.lemmas.Bool.{cases_Bool}
-use Rattle.std.proofs.lemmas.List.Elements.{All-nil}
 use Rattle.std.proofs.lemmas.List.{append-nil, length-map}
 use Rattle.wz_bytes.specs.Shortest.{shortest_unsigned}
 use Rattle.wz_store.specs.State.{Memory}
@@ -15,15 +14,15 @@ use Rattle.wz_module.specs.Module.{Module}
 use Rattle.wz_encode.specs.Datas.{Slot, PassiveSlot, EmptySlot, HeadSlot, slot_text}
 use Rattle.wz_encode.specs.SectionText.{section_text}
 use Rattle.wz_snapshot.specs.declared.segment.ChosenSegment.{ChosenSegment}
-use Rattle.wz_rewrite.specs.OutputState.{OutputState, HasRange, HasRanges}
+use Rattle.wz_rewrite.specs.OutputState.{OutputState, HasRanges}
 use Rattle.wz_rewrite.specs.Dropped.{was_emptied, is_empty_at}
-use Rattle.wz_rewrite.specs.Slots.{slots_from, slots_at, passive_slot, head_of, output_slots, with_behind, filled_slots}
+use Rattle.wz_rewrite.specs.Slots.{slots_from, slots_at, head_of, output_slots, with_behind, filled_slots}
 use Rattle.wz_rewrite.specs.Sections.{lacks, datas_text, renewed_elements, output_payload, brings_elements, new_elements, brings_datas, new_datas, section_with, sections_for}
 use Rattle.wz_rewrite.specs.Output.{sections_text}
 use Rattle.wz_rewrite.specs.Pieces.{OutputPiece, KeptPiece, MadePiece, RangePiece, piece_text, pieces_text, pieces_length, range_of_piece, piece_ranges, kept_of_piece, keeps_elements, keeps_contents, payload_if_kept, slot_pieces, slots_pieces, elements_pieces, contents_pieces, new_elements_pieces, new_datas_pieces, section_pieces, pieces_for, output_pieces}
 use Rattle.wz_rewrite.specs.Laws.{AreInOrder, PiecesAreOutput, PiecesAreChosen, PiecesAreKept}
 use Rattle.wz_rewrite.proofs.WritingLemmas.{length-pieces_text}
-use Rattle.wz_rewrite.proofs.IdLemmas.{IsOther, by_id, flat_map_each, flat_map_parts, flat_map_nil, flat_map_same, flat_map_left, flat_map_right}
+use Rattle.wz_rewrite.proofs.IdLemmas.{by_id, flat_map_each, flat_map_parts, flat_map_nil, flat_map_same, flat_map_left, flat_map_right}
 use Rattle.wz_rewrite.proofs.SectionLemmas.{flat_map_none, flat_map_once, no_items, none_of, some_of, some_from, and_true, and_false}
 
 -- ---- what they have of the input

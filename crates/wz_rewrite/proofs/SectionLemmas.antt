@@ -1,6 +1,6 @@
 -- Sections in their order, each at most once.
-use Rattle.std.proofs.Common.{◌≡◌, ℕ, ◌<◌, ◌≤◌, Bool, true, false, List, [], ◌∷◌, ◌++◌, length, Option, Some, None, sym, ap, subst, ◌∙◌, refl, inl, inr, arith, append-nil}
-use Rattle.std.specs.Prelude.{not, ◌&&◌, ◌==◌, if◌then◌else◌, is_none, IsSome}
+use Rattle.std.proofs.Common.{◌≡◌, ℕ, ◌<◌, ◌≤◌, Bool, true, false, List, [], ◌∷◌, ◌++◌, length, Option, Some, None, ap, ◌∙◌, refl, inl, inr, arith, append-nil}
+use Rattle.std.specs.Prelude.{◌&&◌, ◌==◌, if◌then◌else◌, is_none, IsSome}
 use Rattle.std.specs.List.{flat_map}
 use Rattle.std.proofs.lemmas.Bool.{cases_Bool, eqb-true}
 use Rattle.wz_module.specs.Sections.{Section, section_rank, ranks_of, Rises, payload_of}
@@ -55,11 +55,11 @@ none_behind id xs (s ∷ sections) low some below rises = elim (cases_Bool (s.id
             absurd (omega (arith, r.0, rank, below))
       ]
   | inr e ↦ elim (cases_Bool (s.id == 0)) [
-      | inl z ↦ let r : Rises low (ranks_of sections) = rw z at rises in rw e (none_behind id xs sections low some below r)
-      | inr z ↦
-          let r : (low < section_rank s.id) × Rises (section_rank s.id) (ranks_of sections) = rw z at rises in
-          rw e (none_behind id xs sections (section_rank s.id) some (omega (arith, r.0, below)) r.1)
-    ]
+    | inl z ↦ let r : Rises low (ranks_of sections) = rw z at rises in rw e (none_behind id xs sections low some below r)
+    | inr z ↦
+        let r : (low < section_rank s.id) × Rises (section_rank s.id) (ranks_of sections) = rw z at rises in
+        rw e (none_behind id xs sections (section_rank s.id) some (omega (arith, r.0, below)) r.1)
+  ]
 ]
 
 pub flat_map_once : {X : Type 0} (id : ℕ) (xs : List X) (sections : List Section) (low : ℕ) (payload : List ℕ) → 0 < id → Rises low (ranks_of sections)

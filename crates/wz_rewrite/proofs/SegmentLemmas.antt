@@ -1,16 +1,15 @@
 -- The segments of an element payload, and the numbers of those that were dropped.
-use Rattle.std.proofs.Common.{◌≡◌, ℕ, zero, suc, ◌+◌, ◌-◌, ◌^◌, ◌<◌, ◌≤◌, Bool, true, false, List, [], ◌∷◌, ◌++◌, length, take, slice_index_or, Option, Some, None, sym, ap, subst, ◌∙◌, refl, inl, inr, arith, append_assoc}
+use Rattle.std.proofs.Common.{◌≡◌, ℕ, zero, suc, ◌+◌, ◌-◌, ◌^◌, ◌<◌, ◌≤◌, Bool, List, [], ◌∷◌, ◌++◌, length, take, Option, Some, sym, ap, subst, ◌∙◌, refl, inl, inr, arith}
 use Rattle.std.specs.List.{All, AllZip, concat}
 use Rattle.std.specs.List.Sorted.{IsNonDecreasing}
 use Rattle.std.proofs.lemmas.Bool.{cases_Bool}
 use Rattle.std.proofs.lemmas.List.{length-append, take_at}
 use Rattle.std.proofs.lemmas.List.Elements.{All-nil, All-cons, All-weaker}
-use Rattle.wz_bytes.specs.Unsigned.{unsigned_at}
 use Rattle.wz_bytes.specs.Forms.{AreItems}
 use Rattle.wz_bytes.proofs.UnsignedLaws.{unsigned_exact, unsigned_below}
 use Rattle.wz_module.specs.Elements.{Elem}
 use Rattle.wz_module.specs.declared.items.Span.{Span}
-use Rattle.wz_decode_sections.specs.ElementSection.{IsElem, IsElementSection, elem_at}
+use Rattle.wz_decode_sections.specs.ElementSection.{IsElem, IsElementSection}
 use Rattle.wz_decode_sections.specs.Spans.{AreSpans, HasSpans}
 use Rattle.wz_decode_sections.proofs.SegmentLaws.{elem_exact}
 use Rattle.wz_encode.specs.Elements.{all_covered, elements_by_spans, elements_text}
@@ -100,7 +99,7 @@ rises_before n ns low h zero (suc j) d ij inside = low j d (omega (arith, inside
 rises_before n ns low h (suc i) zero d ij inside = absurd (omega (arith, ij))
 rises_before n ns low h (suc i) (suc j) d ij inside = h i j d (omega (arith, ij)) (omega (arith, inside))
 
-dropped_above : (marks : List Bool) (number : ℕ) (elements : List Elem) → All (λ other. number ≤ other) (dropped_from marks number elements)
+pub dropped_above : (marks : List Bool) (number : ℕ) (elements : List Elem) → All (λ other. number ≤ other) (dropped_from marks number elements)
 dropped_above marks number [] = All-nil (λ other. number ≤ other)
 dropped_above marks number (e ∷ elements) =
     let more = All-weaker (λ other. number + 1 ≤ other) (λ other. number ≤ other) (λ other h. omega (arith, h)) _ (dropped_above marks (number + 1) elements) in

@@ -1,17 +1,17 @@
 -- Pieces one behind the other, on their way to the output.
-use Rattle.std.proofs.Common.{◌≡◌, ℕ, ◌+◌, ◌≤◌, ◌<◌, List, [], ◌∷◌, ◌++◌, length, take, drop, get_or, map, sym, ap, subst, ◌∙◌, arith, append_assoc, append-nil, refl}
+use Rattle.std.proofs.Common.{◌≡◌, ℕ, ◌+◌, ◌≤◌, ◌<◌, List, [], ◌∷◌, ◌++◌, length, take, drop, get_or, map, sym, ap, subst, ◌∙◌, arith, append-nil, refl}
 use Rattle.std.specs.Prelude.{Option, None, Some, option_map, slice_get, Result, Ok, Err, OnOk, OnErr, IsSomeAnd}
-use Rattle.std.specs.List.{All, flat_map, sum_by}
+use Rattle.std.specs.List.{flat_map}
 use Rattle.std.proofs.lemmas.List.{map-append, take-append-drop, take_more, drop_more, length-append}
 use Rattle.std.proofs.lemmas.Grind.{flat_map-append}
 use Rattle.std.proofs.lemmas.List.Sums.{sum_by-append}
 use Rattle.std.proofs.lemmas.List.Elements.{All-head}
-use Rattle.wz_io.specs.World.{World, Current}
+use Rattle.wz_io.specs.World.{World}
 use Rattle.wz_io.specs.Calls.{current_after_transfer}
 use Rattle.wz_io.specs.Writing.{WritesAll, WritesSome}
 use Rattle.wz_io.specs.World.{Rose}
 use Rattle.wz_io.specs.declared.files.Failed.{Failed}
-use Rattle.wz_linear.specs.Bytes.{IsWithin, part}
+use Rattle.wz_linear.specs.Bytes.{IsWithin}
 use Rattle.wz_store.specs.State.{Memory}
 use Rattle.wz_snapshot.specs.declared.segment.ChosenSegment.{ChosenSegment}
 use Rattle.wz_rewrite.specs.OutputState.{bytes_in, HasRange, HasRanges}
@@ -34,7 +34,7 @@ pub within_range : (memories : List Memory) (number at len : ℕ) (contents : Li
 within_range memories number at len contents has is =
     within_memory (slice_get memories number) at len contents (All-head (λ s. HasRange memories s) (chosen_with number at len) [] has) is
 
-length_in : (memory : Option Memory) (at len : ℕ) → IsSomeAnd memory (λ m. IsWithin m.bytes at len) → length (bytes_in memory at len) ≡ len
+pub length_in : (memory : Option Memory) (at len : ℕ) → IsSomeAnd memory (λ m. IsWithin m.bytes at len) → length (bytes_in memory at len) ≡ len
 length_in None at len has = absurd has
 length_in (Some m) at len has = length-part m.bytes at len has
 

@@ -1,6 +1,6 @@
 -- How far the bytes of the output have come on their way through the buffer. This is the tool's own: the WebAssembly Core Specification
 -- doesn't speak of files.
-use Rattle.std.specs.Prelude.{◌≡◌, ℕ, ◌≤◌, List, ◌++◌, length}
+use Rattle.std.specs.Prelude.{◌≡◌, ℕ, ◌≤◌, List, ◌++◌}
 use Rattle.std.specs.Option.{option_map}
 use Rattle.wz_io.specs.World.{World, Rose}
 use Rattle.wz_io.specs.Calls.{with_failure}

@@ -20,12 +20,16 @@ use Rattle.wz_rewrite.specs.Pieces.{pieces_text, piece_ranges, piece_payloads, k
 abbrev pub CanBeRange : List Memory → ChosenSegment → Type 0
 CanBeRange memories segment = CanBeIndex segment.memory × CanBeIndex segment.at × CanBeBytes (range_bytes memories segment.memory segment.at segment.len)
 
+-- there is a code section
+abbrev pub HasCode : Module → Type 0
+HasCode m = IsSome (payload_of 10 m.sections)
+
 -- What the output can be written from: a module that was read, with a code section, and a state of it whose numbers have their widths and
 -- whose sections are short enough.
 pub record CanBeOutput (m : Module) (o : OutputState) : Type 0 where
   pub input : List ℕ
   pub spelled : Spells input m
-  pub code : IsSome (payload_of 10 m.sections)
+  pub code : HasCode m
   pub sizes : All CanBeMemory (output_memories m o)
   pub globals : length m.globals ≡ length o.globals
   pub constants : CanBeVector CanBeConstant o.globals
@@ -46,13 +50,25 @@ OutputSpells = (m : Module) (o : OutputState) → CanBeOutput m o → Spells (ou
 abbrev pub AreInOrder : List Section → Type 0
 AreInOrder sections = Rises 0 (ranks_of sections)
 
+-- the element section spells the module's element segments
+abbrev pub SpellsElements : Module → Type 0
+SpellsElements m = All (λ s. s.id ≡ 9 → IsElementSection s.payload m.elements) m.sections
+
+-- where bytes spell a module, its element section spells its element segments
+abbrev pub InputSpellsElements : Type 0
+InputSpellsElements = (input : List ℕ) (m : Module) → Spells input m → SpellsElements m
+
+-- and its sections are in order
+abbrev pub InputIsInOrder : Type 0
+InputIsInOrder = (input : List ℕ) (m : Module) → Spells input m → AreInOrder m.sections
+
 -- the pieces, with each range read from its memory, are the output
 abbrev pub PiecesAreOutput : Type 0
 PiecesAreOutput = (m : Module) (o : OutputState) → HasRanges o.memories o.chosen → pieces_text o.memories (output_pieces m o) ≡ output_bytes m o
 
 -- their ranges are the chosen ones, in order
 abbrev pub PiecesAreChosen : Type 0
-PiecesAreChosen = (m : Module) (o : OutputState) → AreInOrder m.sections → IsSome (payload_of 10 m.sections) → piece_ranges (output_pieces m o) ≡ o.chosen
+PiecesAreChosen = (m : Module) (o : OutputState) → AreInOrder m.sections → HasCode m → piece_ranges (output_pieces m o) ≡ o.chosen
 
 -- and what they have of the input is just the contents that stay, in order
 abbrev pub PiecesAreKept : Type 0

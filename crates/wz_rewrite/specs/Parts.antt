@@ -1,7 +1,6 @@
 -- The parts of the output's module (section 2.5 of the WebAssembly Core Specification 2.0) that aren't the input's own.
-use Rattle.std.specs.Prelude.{ℕ, ◌+◌, Bool, List, map, length, Option, Some, None}
+use Rattle.std.specs.Prelude.{ℕ, List, map, length, Option, Some, None}
 use Rattle.std.specs.List.{zip}
-use Rattle.wz_types.specs.declared.types.Limits.{Limits}
 use Rattle.wz_types.specs.declared.types.MemType.{MemType}
 use Rattle.wz_types.specs.declared.types.GlobalType.{GlobalType}
 use Rattle.wz_module.specs.Globals.{GlobalDef}

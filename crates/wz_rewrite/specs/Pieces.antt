@@ -1,5 +1,5 @@
 -- How the output is cut into pieces, so that it never stands in memory as a whole. This is the tool's own.
-use Rattle.std.specs.Prelude.{ℕ, ◌+◌, Bool, true, not, ◌&&◌, ◌||◌, List, [], ◌∷◌, ◌++◌, length, Option, Some, None, if◌then◌else◌, ◌==◌}
+use Rattle.std.specs.Prelude.{ℕ, Bool, true, not, ◌&&◌, ◌||◌, List, [], ◌∷◌, ◌++◌, length, Option, Some, None, if◌then◌else◌, ◌==◌}
 use Rattle.std.specs.List.{flat_map, sum_by}
 use Rattle.wz_bytes.specs.Shortest.{shortest_unsigned}
 use Rattle.wz_store.specs.State.{Memory}

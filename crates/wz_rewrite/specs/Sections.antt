@@ -1,6 +1,6 @@
 -- The sections of the output (section 5.5 of the WebAssembly Core Specification 2.0): those of the input in their order, some of them
 -- written anew, with the shortest spelling of every number, and perhaps an element and a data section that come in.
-use Rattle.std.specs.Prelude.{ℕ, Bool, not, ◌&&◌, List, [], ◌∷◌, ◌++◌, length, Option, Some, None, is_some, is_none, if◌then◌else◌, ◌==◌}
+use Rattle.std.specs.Prelude.{ℕ, Bool, not, ◌&&◌, List, [], ◌∷◌, ◌++◌, length, Option, Some, None, is_none, if◌then◌else◌, ◌==◌}
 use Rattle.std.specs.List.{flat_map}
 use Rattle.wz_bytes.specs.Shortest.{shortest_unsigned}
 use Rattle.wz_module.specs.Sections.{Section, payload_of}

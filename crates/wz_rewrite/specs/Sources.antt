@@ -1,5 +1,5 @@
 -- What the contents of the output's sections are made from, and what was found out before they are made.
-use Rattle.std.specs.Prelude.{◌≡◌, ℕ, List, [], length, map}
+use Rattle.std.specs.Prelude.{◌≡◌, [], map}
 use Rattle.wz_module.specs.Meaning.{module_of}
 use Rattle.wz_module.specs.Module.{Module}
 use Rattle.wz_encode.specs.Views.{slot_of}

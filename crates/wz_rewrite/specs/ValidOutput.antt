@@ -16,7 +16,8 @@ use Rattle.wz_store.specs.State.{Memory, pages_of}
 use Rattle.wz_words.specs.Settings.{Settings}
 use Rattle.wz_snapshot.specs.Recorded.{RecordedState}
 use Rattle.wz_exports.specs.Kept.{KeptExports, kept}
-use Rattle.wz_rewrite.specs.OutputState.{HasRanges, output_state}
+use Rattle.wz_rewrite.specs.OutputState.{OutputState, HasRanges, output_state}
+use Rattle.wz_rewrite.specs.Sections.{output_sections}
 use Rattle.wz_rewrite.specs.Output.{output_module}
 
 -- ---- what a run keeps of the types of a module's globals and memories
@@ -42,7 +43,7 @@ pub record HasTypesOf (m : Module) (r : RecordedState) (memories : List Memory) 
   pub pages : r.pages ≡ map pages_of memories
   pub together : sum r.pages ≤ pages_limit
 
--- ---- the law
+-- ---- the laws
 
 -- the renames differ in the names that they give
 abbrev pub GivesNamesOnce : Settings → Type 0
@@ -59,3 +60,7 @@ abbrev pub OutputIsValid : Type 0
 OutputIsValid = (m : Module) (s : Settings) (k : KeptExports) (r : RecordedState) (memories : List Memory)
     → IsValid m → IsInProfile m → GivesNamesOnce s → kept m s ≡ Ok k → HasTypesOf m r memories → HasRanges memories r.segments
     → IsValidWith (output_module m (output_state m r memories k)) k
+
+-- the output has no start section, whose id is 8
+abbrev pub HasNoStartSection : Type 0
+HasNoStartSection = (m : Module) (o : OutputState) → All (λ s. s.id ≢ 8) (output_sections m o)

@@ -40,7 +40,13 @@ fn changed_contents<'a>(
     };
     let mut bytes = Vec::new(alloc);
     let old = Some(payload);
-    put_elements(&mut bytes, old, &spans, &sources.dropped, &sources.undeclared)?;
+    put_elements(
+        &mut bytes,
+        old,
+        &spans,
+        &sources.dropped,
+        &sources.undeclared,
+    )?;
     made(alloc, bytes)
 }
 

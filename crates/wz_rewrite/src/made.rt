@@ -26,10 +26,7 @@ pub(crate) fn made<'a>(alloc: Global, bytes: Vec<u8>) -> Result<Option<Pieces<'a
 }
 
 /// Contents that stay.
-pub(crate) fn kept_as_is(
-    alloc: Global,
-    bytes: &[u8],
-) -> Result<Option<Pieces<'_>>, AllocError>
+pub(crate) fn kept_as_is(alloc: Global, bytes: &[u8]) -> Result<Option<Pieces<'_>>, AllocError>
     ensures { IfOk result (λ contents. contents ≡ Some (KeptPiece bytes.now ∷ [])) }
 {
     let mut pieces = Pieces::new(alloc);

@@ -64,7 +64,12 @@ pub(crate) fn sources_of<'p, 'a>(
 {
     let undeclared = undeclared(alloc, module, snapshot, kept)?;
     let dropped = dropped_numbers(alloc, module.elements(), snapshot.empty_elements())?;
-    let slots = slots(alloc, module.datas(), snapshot.empty_data(), snapshot.segments())?;
+    let slots = slots(
+        alloc,
+        module.datas(),
+        snapshot.empty_data(),
+        snapshot.segments(),
+    )?;
     Ok(Sources {
         input: module,
         snapshot,

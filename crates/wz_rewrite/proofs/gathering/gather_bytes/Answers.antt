@@ -1,4 +1,4 @@
-use Rattle.std.proofs.Common.{◌≤◌, ◌+◌, ◌++◌, length, take, arith, rules}
+use Rattle.std.proofs.Common.{◌≤◌, ◌+◌, length, take, arith, rules}
 use Rattle.wz_rewrite.proofs.GatheringLemmas.{gathers_step, fails_step, on_err, copied, piece_is, piece_length}
 use Rattle.wz_rewrite.proofs.gathering.gather_bytes.Goals as goal
 

@@ -1,4 +1,4 @@
-use Rattle.std.proofs.Common.{ℕ, ◌≡◌, ◌≤◌, ◌+◌, ◌++◌, length, take, ap, ◌∙◌, arith, rules, refl}
+use Rattle.std.proofs.Common.{ℕ, ◌≤◌, ◌+◌, take, ap, ◌∙◌, arith, rules, refl}
 use Rattle.wz_linear.specs.Bytes.{part}
 use Rattle.wz_rewrite.proofs.GatheringLemmas.{gathers_step, fails_step, gathers_last, on_err, part_piece, length-part}
 use Rattle.wz_rewrite.proofs.gathering.gather_range.Goals as goal

@@ -1,5 +1,5 @@
 use Rattle.std.proofs.Common.{◌≤◌, length, map, take, subst, arith, rules}
-use Rattle.std.specs.Prelude.{List, ℕ}
+use Rattle.std.specs.Prelude.{List}
 use Rattle.std.proofs.lemmas.List.{take_all}
 use Rattle.wz_rewrite.specs.Pieces.{pieces_text}
 use Rattle.wz_rewrite.specs.Gathering.{Gathers}
