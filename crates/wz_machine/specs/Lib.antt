@@ -26,4 +26,6 @@ pub mod Within
 pub mod Laws
 pub mod Contexts
 pub mod Flat
+pub mod Stacks
+pub mod Kept
 pub mod TypedState

@@ -13,5 +13,7 @@
 
 pub mod laws;
 mod questions;
+mod room;
+mod stacks;
 
 pub use questions::{FloatReply, Growth, HostTarget};
