@@ -7,3 +7,4 @@ pub mod FlatLemmas
 pub mod TypedLemmas
 pub mod RoomLemmas
 pub mod StackLemmas
+pub mod KeptLemmas

@@ -28,4 +28,5 @@ pub mod Contexts
 pub mod Flat
 pub mod Stacks
 pub mod Kept
+pub mod Opening
 pub mod TypedState

@@ -12,6 +12,7 @@
 #![tactic(auto)]
 
 pub mod laws;
+mod blocks;
 mod questions;
 mod room;
 mod stacks;
