@@ -8,3 +8,4 @@ pub mod TypedLemmas
 pub mod RoomLemmas
 pub mod StackLemmas
 pub mod KeptLemmas
+pub mod LandingLemmas

@@ -29,4 +29,5 @@ pub mod Flat
 pub mod Stacks
 pub mod Kept
 pub mod Opening
+pub mod Landing
 pub mod TypedState
