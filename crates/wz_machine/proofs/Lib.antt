@@ -9,3 +9,4 @@ pub mod RoomLemmas
 pub mod StackLemmas
 pub mod KeptLemmas
 pub mod LandingLemmas
+pub mod ListLemmas

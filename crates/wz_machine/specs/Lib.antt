@@ -30,4 +30,5 @@ pub mod Stacks
 pub mod Kept
 pub mod Opening
 pub mod Landing
+pub mod Turns
 pub mod TypedState

@@ -13,8 +13,10 @@
 
 pub mod laws;
 mod blocks;
+mod branches;
 mod questions;
 mod room;
 mod stacks;
+mod turn;
 
 pub use questions::{FloatReply, Growth, HostTarget};
