@@ -13,7 +13,7 @@ use Rattle.wz_machine.specs.Opening.{IsBlockKind, block_in, with_block}
 use Rattle.wz_machine.specs.Landing.{IsLeft, IsAgain}
 use Rattle.wz_machine.proofs.ListLemmas.{drop-back}
 
-parts-same : (t u : Entry) (o p : List Entry) (v w : List Value) → t ≡ u → o ≡ p → v ≡ w
+pub parts-same : (t u : Entry) (o p : List Entry) (v w : List Value) → t ≡ u → o ≡ p → v ≡ w
     → ◌≡◌ {A = StackParts} (record { top = t; outer = o; values = v }) (record { top = u; outer = p; values = w })
 parts-same t u o p v w a b e = cc
 
@@ -104,8 +104,19 @@ pub record FoundAt (child target parent : Entry) (parents : List Entry) : Type 0
   pub room : HasRoom parent
   pub stacked : AreStacked parent parents
   pub own : HasRoom target
+  pub base : target.base ≤ child.height
   pub few : target.frames ≤ child.frames
   pub small : target.frame_locals ≤ child.frame_locals
+
+-- an entry begins below all that is within it
+pub base-falls : (label : ℕ) (child target : Entry) (outer : List Entry) → HasRoom child → AreStacked child outer → slice_get (child ∷ outer) label ≡ Some target
+    → target.base ≤ child.height
+base-falls zero child target outer room stacked here =
+    let e : child ≡ target = cc in
+    subst (λ (t : Entry). t.base ≤ child.height) e room.base
+base-falls (suc label) child target [] room stacked here = cc
+base-falls (suc label) child target (first ∷ outer) room stacked here =
+    omega (arith, base-falls label first target outer stacked.2 stacked.3 here, stacked.1, room.base)
 
 counts-fall : (kind : EntryKind) (child parent : Entry) → IsKindIn kind child parent → (parent.frames ≤ child.frames) × (parent.frame_locals ≤ child.frame_locals)
 counts-fall CallEntry child parent h = (omega (arith, h.frames), omega (arith, h.frame_locals))
@@ -116,14 +127,15 @@ found-same : (child target first parent : Entry) (parents : List Entry) → chil
 found-same child target first parent parents e f h =
     subst (λ (p : Entry). FoundAt child target p parents) f (subst (λ (t : Entry). FoundAt child t first parents) e h)
 
-found-outwards : (child next target parent : Entry) (parents : List Entry) → (next.frames ≤ child.frames) × (next.frame_locals ≤ child.frame_locals)
+found-outwards : (child next target parent : Entry) (parents : List Entry) → next.height ≤ child.height → (next.frames ≤ child.frames) × (next.frame_locals ≤ child.frame_locals)
     → FoundAt next target parent parents → FoundAt child target parent parents
-found-outwards child next target parent parents fall h = record {
+found-outwards child next target parent parents le fall h = record {
   kind = h.kind;
   height = h.height;
   room = h.room;
   stacked = h.stacked;
   own = h.own;
+  base = omega (arith, h.base, le);
   few = omega (arith, h.few, fall.0);
   small = omega (arith, h.small, fall.1);
 }
@@ -133,9 +145,9 @@ pub found-at : (label : ℕ) (child target parent : Entry) (outer : List Entry) 
 found-at label child target parent [] room stacked here around = cc
 found-at zero child target parent (first ∷ outer) room stacked here around =
     found-same child target first parent outer (cc) (cc)
-    (record { kind = stacked.0; height = stacked.1; room = stacked.2; stacked = stacked.3; own = room; few = omega arith; small = omega arith })
+    (record { kind = stacked.0; height = stacked.1; room = stacked.2; stacked = stacked.3; own = room; base = room.base; few = omega arith; small = omega arith })
 found-at (suc label) child target parent (first ∷ outer) room stacked here around =
-    found-outwards child first target parent (drop (suc label) outer) (counts-fall child.kind child first stacked.0)
+    found-outwards child first target parent (drop (suc label) outer) (omega (arith, stacked.1, room.base)) (counts-fall child.kind child first stacked.0)
     (found-at label first target parent outer stacked.2 stacked.3 here around)
 
 pub left-stacked : (s now : StackParts) (label have count : ℕ) (target : Entry) → IsStacked s → slice_get (s.top ∷ s.outer) label ≡ Some target
@@ -253,7 +265,7 @@ left-parts i s n label base have count parent outer values e len lt cut is moved
     record {
       parent = ap (λ (es : List Entry). slice_get es label) (sym around) ∙ here;
       outer = ap (λ (os : List Opened). reverse (map entry_of os)) (cut ∙ ap (λ k. take k i.outer.items) front)
-      ∙ outer-cut i.outer.items (suc label) (omega (arith, lt)) ∙ ap (λ (es : List Entry). drop (suc label) es) around;
+          ∙ outer-cut i.outer.items (suc label) (omega (arith, lt)) ∙ ap (λ (es : List Entry). drop (suc label) es) around;
       values = moved;
     }
 
@@ -267,7 +279,7 @@ again-parts i s n label have count target new again outer values e len lt cut is
     record {
       top = is;
       outer = ap (λ (os : List Opened). reverse (map entry_of os)) (cut ∙ ap (λ k. take k i.outer.items) front)
-      ∙ outer-cut i.outer.items label (omega (arith, lt)) ∙ ap (λ (es : List Entry). drop label es) around;
+          ∙ outer-cut i.outer.items label (omega (arith, lt)) ∙ ap (λ (es : List Entry). drop label es) around;
       values = moved;
     }
 

@@ -10,3 +10,5 @@ pub mod StackLemmas
 pub mod KeptLemmas
 pub mod LandingLemmas
 pub mod ListLemmas
+pub mod BranchLemmas
+pub mod StepLemmas

@@ -5,9 +5,11 @@ use Rattle.wz_store.specs.Changes.{Nothing, range_of}
 use Rattle.wz_machine.specs.declared.turn.Turn.{Turn}
 use Rattle.wz_machine.specs.declared.turn.Turn.TheVariants as turn
 use Rattle.wz_machine.specs.State.{State}
-use Rattle.wz_machine.specs.Outcomes.{Answer, Next, Done, Trap, Stuck}
+use Rattle.wz_machine.specs.Outcomes.{Branches, Returns, Answer, Next, Done, Trap, Stuck}
 use Rattle.wz_machine.specs.Step.{step}
-use Rattle.wz_machine.specs.Stacks.{StackParts, stacks_term}
+use Rattle.wz_machine.specs.Contexts.{content_reduct}
+use Rattle.wz_machine.specs.Flat.{content_of}
+use Rattle.wz_machine.specs.Stacks.{StackParts, flat_of, stacks_term}
 
 -- the term is done with so many values from a place on, and the stacks are as they were
 pub record Ended (answer : Answer) (before : StackParts) (at count : ℕ) (now : StackParts) : Type 0 where
@@ -29,3 +31,15 @@ TurnedAnywhere before result now = (st : State) → Turned (step st (stacks_term
 -- the innermost block's own values among the first so many, the last pushed first
 abbrev pub own_of : StackParts → ℕ → List Value
 own_of s have = reverse (drop s.top.height (take have s.values))
+
+-- ---- where the innermost code comes to something, in any state
+
+-- it branches to this label, with what its block has of so many values
+abbrev pub JumpTurned : StackParts → ℕ → ℕ → Turn → StackParts → Type 0
+JumpTurned before label have result now =
+    (st : State) → content_reduct st (content_of (flat_of before)) ≡ Branches label (own_of before have) → Turned (step st (stacks_term before)) before result now
+
+-- it returns
+abbrev pub ReturnTurned : StackParts → ℕ → Turn → StackParts → Type 0
+ReturnTurned before have result now =
+    (st : State) → content_reduct st (content_of (flat_of before)) ≡ Returns (own_of before have) → Turned (step st (stacks_term before)) before result now

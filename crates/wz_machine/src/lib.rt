@@ -11,9 +11,9 @@
 //! `Within`, `Contexts` and `Flat` are what the laws speak of.
 #![tactic(auto)]
 
-pub mod laws;
 mod blocks;
 mod branches;
+pub mod laws;
 mod questions;
 mod room;
 mod stacks;
