@@ -5,3 +5,5 @@ pub mod MoveLemmas
 pub mod ContextLemmas
 pub mod FlatLemmas
 pub mod TypedLemmas
+pub mod PutLemmas
+pub mod GrowLemmas

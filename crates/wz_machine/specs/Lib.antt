@@ -27,3 +27,6 @@ pub mod Laws
 pub mod Contexts
 pub mod Flat
 pub mod TypedState
+pub mod Callees
+pub mod Growths
+pub mod Refusals

@@ -11,7 +11,11 @@
 //! `Within`, `Contexts` and `Flat` are what the laws speak of.
 #![tactic(auto)]
 
+mod answers;
+mod callee;
+mod growing;
 pub mod laws;
 mod questions;
 
-pub use questions::{FloatReply, Growth, HostTarget};
+pub use answers::{EnterFault, GrowFault, HostFault, NotNow, Tick};
+pub use questions::{Ask, FloatReply, Growth, HostTarget};
