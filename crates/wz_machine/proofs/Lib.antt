@@ -7,3 +7,5 @@ pub mod FlatLemmas
 pub mod TypedLemmas
 pub mod PutLemmas
 pub mod GrowLemmas
+pub mod RoomLemmas
+pub mod StackLemmas

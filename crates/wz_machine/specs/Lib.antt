@@ -26,6 +26,8 @@ pub mod Within
 pub mod Laws
 pub mod Contexts
 pub mod Flat
+pub mod Stacks
+pub mod Kept
 pub mod TypedState
 pub mod Callees
 pub mod Growths

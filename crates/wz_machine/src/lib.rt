@@ -16,6 +16,8 @@ mod callee;
 mod growing;
 pub mod laws;
 mod questions;
+mod room;
+mod stacks;
 
 pub use answers::{EnterFault, GrowFault, HostFault, NotNow, Tick};
 pub use questions::{Ask, FloatReply, Growth, HostTarget};
