@@ -9,3 +9,5 @@ pub mod PutLemmas
 pub mod GrowLemmas
 pub mod RoomLemmas
 pub mod StackLemmas
+pub mod CountLemmas
+pub mod StandingLemmas

@@ -1,11 +1,12 @@
 -- Values that are put into a term from outside, and the term that a call begins with, over flat stacks.
-use Rattle.std.proofs.Common.{◌≡◌, ◌≤◌, ℕ, ◌-◌, List, [], ◌∷◌, ◌++◌, length, drop, reverse, refl, ap, ◌∙◌, arith}
-use Rattle.std.proofs.lemmas.List.{take_all, drop_all, reverse-reverse}
+use Rattle.std.proofs.Common.{◌≡◌, ◌≤◌, ℕ, ◌+◌, ◌-◌, List, [], ◌∷◌, ◌++◌, length, take, drop, reverse, refl, ap, ◌∙◌, sym, arith}
+use Rattle.std.proofs.lemmas.List.{take_all, drop_all, reverse-reverse, take-take, drop-take, length-take-le}
 use Rattle.wz_types.specs.declared.value.Value.{Value}
 use Rattle.wz_code.specs.Trees.{Code}
 use Rattle.wz_machine.specs.Terms.{Innermost, Frame}
 use Rattle.wz_machine.specs.Contexts.{FrameContent, Layer, LabelLayer, FrameLayer, in_layer, term_in}
 use Rattle.wz_machine.specs.Flat.{OpenFunction, FlatStacks, results_of, layers_in, content_of, flat_term, HasPlaces}
+use Rattle.wz_machine.specs.Stacks.{StackParts, flat_of, stacks_term, IsStacked, last_values, first_values, without, with_more}
 use Rattle.wz_machine.specs.Replies.{put_inside, put}
 use Rattle.wz_machine.proofs.FlatLemmas.{leaving_term}
 
@@ -39,3 +40,43 @@ pub flat_start : (results : ℕ) (locals : List Value) (code : Code) → flat_te
 flat_start results locals code =
     ap (λ (ls : List Value). Frame results ls (Innermost (reverse (drop (length locals) locals)) code)) (take_all (length locals - 0) locals (omega arith))
     ∙ ap (λ (own : List Value). Frame results locals (Innermost (reverse own) code)) (drop_all (length locals) locals (omega arith))
+
+-- ---- values in the place of the last ones
+
+-- so many of the values are used; `mid` has room for more
+pub replaced_values : (old mid new more : List Value) (have count : ℕ) → have ≤ length old → count ≤ have → take have mid ≡ take have old
+    → take (have - count + length more) new ≡ take (have - count) mid ++ more
+    → take (have - count + length more) new ≡ first_values count (take have old) ++ more
+replaced_values old mid new more have count used le same written =
+    let len : length (take have old) ≡ have = length-take-le have old used in
+    let front : take (have - count) mid ≡ take (have - count) (take have old) =
+    sym (take-take (have - count) have mid (omega arith)) ∙ ap (λ (xs : List Value). take (have - count) xs) same in
+    written ∙ ap (λ (xs : List Value). xs ++ more) (front ∙ ap (λ (n : ℕ). take (n - count) (take have old)) (sym len))
+
+-- what always holds of the stacks does so with other values, if those of the blocks are there
+pub still_stacked : (s : StackParts) (values : List Value) → IsStacked s → s.top.height ≤ length values → IsStacked (record s { values = values })
+still_stacked s values is le = record {
+  within = le;
+  room = is.room;
+  stacked = is.stacked;
+  few = is.few;
+  small = is.small;
+}
+
+pub stacks_put : (s : StackParts) (count : ℕ) (pushed : List Value) → IsStacked s → s.top.height + count ≤ length s.values
+    → stacks_term (with_more pushed (without count s)) ≡ put (reverse pushed) (stacks_term (without count s))
+stacks_put s count pushed is le =
+    let len : length (first_values count s.values) ≡ length s.values - count = length-take-le (length s.values - count) s.values (omega arith) in
+    sym (flat_put (flat_of (without count s)) pushed (record { base = is.room.base; locals = is.room.locals; height = is.room.height }) (omega (arith, len, le)))
+
+-- so many of the values are used, and these are the last ones of them
+pub last_is : (items : List Value) (have count : ℕ) → have ≤ length items → count ≤ have
+    → take (have - (have - count)) (drop (have - count) items) ≡ last_values count (take have items)
+last_is items have count used le =
+    let len : length (take have items) ≡ have = length-take-le have items used in
+    let few : have - (have - count) ≡ count = omega arith in
+    let all : have - count + count ≡ have = omega arith in
+    ap (λ (n : ℕ). take n (drop (have - count) items)) few
+    ∙ sym (drop-take (have - count) count items)
+    ∙ ap (λ (n : ℕ). drop (have - count) (take n items)) all
+    ∙ ap (λ (n : ℕ). drop (n - count) (take have items)) (sym len)

@@ -32,3 +32,6 @@ pub mod TypedState
 pub mod Callees
 pub mod Growths
 pub mod Refusals
+pub mod Standings
+pub mod Keeping
+pub mod Machines

@@ -13,11 +13,14 @@
 
 mod answers;
 mod callee;
+mod counts;
 mod growing;
 pub mod laws;
+mod operands;
 mod questions;
 mod room;
 mod stacks;
+mod standing;
 
 pub use answers::{EnterFault, GrowFault, HostFault, NotNow, Tick};
 pub use questions::{Ask, FloatReply, Growth, HostTarget};

@@ -1,0 +1,2 @@
+-- Terms in a machine.
+use Rattle.std.proofs.Common.{◌≡◌, ℕ, refl}
