@@ -35,3 +35,4 @@ pub mod Refusals
 pub mod Standings
 pub mod Keeping
 pub mod Machines
+pub mod Waiting

@@ -21,6 +21,7 @@ mod questions;
 mod room;
 mod stacks;
 mod standing;
+mod waiting;
 
 pub use answers::{EnterFault, GrowFault, HostFault, NotNow, Tick};
 pub use questions::{Ask, FloatReply, Growth, HostTarget};
