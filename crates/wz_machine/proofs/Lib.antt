@@ -11,3 +11,4 @@ pub mod RoomLemmas
 pub mod StackLemmas
 pub mod CountLemmas
 pub mod StandingLemmas
+pub mod ReplyLemmas

@@ -1,6 +1,6 @@
 -- The stack of terms in a machine: its top, and what an answer makes of it.
-use Rattle.std.proofs.Common.{◌≡◌, ◌≤◌, ◌<◌, ℕ, ◌+◌, ◌-◌, List, [], ◌∷◌, ◌++◌, Option, Some, None, Bool, true, false, IsSome, IsTrue, ◌↔◌, length, take, drop, reverse, map, get_or, slice_get, refl, ap, sym, ◌∙◌, arith}
-use Rattle.std.proofs.lemmas.List.{take_all, take_more, take_more_set, take_at, set-get_or, length-set, length-map, length-reverse, reverse-append}
+use Rattle.std.proofs.Common.{◌≡◌, ◌≤◌, ◌<◌, ℕ, ◌+◌, ◌-◌, List, [], ◌∷◌, ◌++◌, Option, Some, None, Bool, true, false, IsSome, IsTrue, ◌↔◌, length, take, drop, reverse, map, get_or, refl, ap, sym, ◌∙◌, arith}
+use Rattle.std.proofs.lemmas.List.{take_all, take_more, take_more_set, length-set, length-map, length-reverse, reverse-append}
 use Rattle.std.proofs.Math.ListN.{set}
 use Rattle.wz_types.specs.declared.value.Value.{Value}
 use Rattle.wz_types.specs.FunctionType.{FunctionType}

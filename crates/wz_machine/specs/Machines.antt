@@ -1,5 +1,5 @@
 -- What contracts see of a machine: the state, the stack of terms, and what a move from outside leaves of both.
-use Rattle.std.specs.Prelude.{◌≡◌, ◌≤◌, ◌^◌, ℕ, List, length, map}
+use Rattle.std.specs.Prelude.{◌≡◌, List, map}
 use Rattle.wz_code.specs.BodyParts.{BodyParts}
 use Rattle.wz_store.specs.Made.{StoreState}
 use Rattle.wz_store.specs.Changes.{applied}

@@ -26,6 +26,11 @@ abbrev pub is_refusal : Event → Bool
 is_refusal Refused = true
 is_refusal event = false
 
+-- the reason, where a move is refused
+abbrev pub refusal_of : {E : Type 0} → E → Event → Option E
+refusal_of reason Refused = Some reason
+refusal_of reason event = None
+
 -- ---- what is answered then
 
 -- the reason where there is one, and otherwise success, or else that memory was refused

@@ -1,19 +1,12 @@
 -- A stack of terms whose topmost waits: what it waits for, and what an answer makes of it.
-use Rattle.std.specs.Prelude.{ℕ, List, [], ◌∷◌, ◌-◌, ◌^◌, Option, Some, None, Bool, true, false, if◌then◌else◌, slice_get}
+use Rattle.std.specs.Prelude.{ℕ, List, [], ◌∷◌, ◌-◌, ◌^◌, Option, Some, None, Bool, true, false, slice_get}
 use Rattle.wz_types.specs.declared.value.Value.{Value}
-use Rattle.wz_types.specs.declared.value.Value.TheVariants.{I32}
-use Rattle.wz_types.specs.declared.trap.TrapKind.TheVariants as trap
 use Rattle.wz_types.specs.FunctionType.{FunctionType}
 use Rattle.wz_code.specs.declared.numeric.NumOp.{NumOp}
-use Rattle.wz_code.specs.Numeric.{types_of}
 use Rattle.wz_store.specs.State.{Table, Memory}
 use Rattle.wz_store.specs.Changes.{Change, Nothing, GrowTable, GrowMemory}
-use Rattle.wz_machine.specs.declared.questions.FloatReply.{FloatReply}
-use Rattle.wz_machine.specs.declared.questions.FloatReply.TheVariants as reply
-use Rattle.wz_machine.specs.State.{State}
 use Rattle.wz_machine.specs.Terms.{Standing, Runs, Waits}
-use Rattle.wz_machine.specs.Moves.{Went, Trapped}
-use Rattle.wz_machine.specs.Replies.{Reply, refusal, event_reply, change_reply, fits_in, put}
+use Rattle.wz_machine.specs.Replies.{put}
 use Rattle.wz_machine.specs.Growths.{growing_pages, growing_entries}
 use Rattle.wz_machine.specs.Standings.{Asking, AskingFloat, AskingMemory, AskingTable, AskingHost}
 

@@ -1,10 +1,14 @@
 //! Growth within the limits of the moment (Core Specification 2.0, sections 4.5.3.8 and 4.5.3.9).
 
-ghost use Rattle.std.specs.Prelude.{◌≡◌, ◌≤◌, slice_get, IfOk, OnErr, OnSome, IfNone};
+ghost use Rattle.std.specs.Prelude.{◌≡◌, ◌≤◌, slice_get, IfOk, OnErr, OnSome, IfNone, IsSome};
 ghost use Rattle.wz_store.specs.Changes.{applied, GrowTable, GrowMemory};
 ghost use Rattle.wz_store.specs.Growth.{within_maximum, may_extend, may_grow};
+ghost use Rattle.std.specs.Option.{option_map};
 ghost use Rattle.wz_machine.specs.Growths.{growing_pages, growing_entries};
+ghost use Rattle.wz_machine.specs.Keeping.{asking_of};
+ghost use Rattle.wz_machine.specs.Waiting.{size_found, growth_change};
 
+use crate::standing::Pending;
 use std::alloc::AllocError;
 use wz_linear::{Linear, MAX_PAGES};
 use wz_store::Store;
@@ -48,6 +52,8 @@ pub(crate) fn grow_memory<'m, M: Linear>(
         (store.new ≡ applied (GrowMemory index by) store.old)) }
     ensures kept { IfOk result (λ size. IfNone size (store.new ≡ store.old)) }
     ensures refused { OnErr result (store.new ≡ store.old) }
+    ensures within { OnErr result (IsSome
+        (growing_pages (slice_get store.old.memories index) by)) }
 {
     let Some(kind) = store.memory_type(index) else {
         return Ok(None);
@@ -77,6 +83,8 @@ pub(crate) fn grow_table<'m, M: Linear>(
         (store.new ≡ applied (GrowTable index by value) store.old)) }
     ensures kept { IfOk result (λ size. IfNone size (store.new ≡ store.old)) }
     ensures refused { OnErr result (store.new ≡ store.old) }
+    ensures within { OnErr result (IsSome
+        (growing_entries (slice_get store.old.tables index) by)) }
 {
     let Some(kind) = store.table_type(index) else {
         return Ok(None);
@@ -86,4 +94,28 @@ pub(crate) fn grow_table<'m, M: Linear>(
     }
     store.extend_table(index, by, value)?;
     Ok(Some(kind.limits.min))
+}
+
+/// Grows what is asked for, if it is granted and may grow, and gives what the answer puts: the size
+/// before, or -1 where it isn't granted. None where no growth is asked for, or where it may not.
+pub(crate) fn found_size<'m, M: Linear>(
+    store: &mut Store<'m, M>,
+    question: Option<Pending<'m>>,
+    granted: bool,
+) -> Result<Option<u32>, AllocError>
+    ensures size { IfOk result (λ size. size ≡ size_found store.old.memories store.old.tables
+        (option_map (λ pending. asking_of pending) question.entry) granted) }
+    ensures grown { IfOk result (λ size. OnSome size (store.new ≡ applied (growth_change
+        (option_map (λ pending. asking_of pending) question.entry) granted) store.old)) }
+    ensures kept { IfOk result (λ size. IfNone size (store.new ≡ store.old)) }
+    ensures refused { OnErr result (store.new ≡ store.old) }
+    ensures within { OnErr result (IsSome (size_found store.old.memories store.old.tables
+        (option_map (λ pending. asking_of pending) question.entry) granted)) }
+{
+    match question {
+        None | Some(Pending::Float(_) | Pending::Host { .. }) => Ok(None),
+        Some(Pending::Memory { .. } | Pending::Table { .. }) if !granted => Ok(Some(u32::MAX)),
+        Some(Pending::Memory { index, by }) => grow_memory(store, index, by),
+        Some(Pending::Table { index, by, value }) => grow_table(store, index, by, value),
+    }
 }

@@ -16,6 +16,7 @@ mod callee;
 mod counts;
 mod growing;
 pub mod laws;
+mod machine;
 mod operands;
 mod questions;
 mod room;
@@ -24,4 +25,5 @@ mod standing;
 mod waiting;
 
 pub use answers::{EnterFault, GrowFault, HostFault, NotNow, Tick};
+pub use machine::Machine;
 pub use questions::{Ask, FloatReply, Growth, HostTarget};
