@@ -1,16 +1,14 @@
 -- The counts that each entry of the stacks keeps are those of the term.
-use Rattle.std.proofs.Common.{◌≡◌, ◌≤◌, ◌<◌, ℕ, ◌+◌, ◌-◌, List, [], ◌∷◌, ◌++◌, Option, Some, None, length, take, drop, map, get_or, refl, ap, sym, ◌∙◌, arith}
-use Rattle.std.proofs.lemmas.List.{length-drop, length-take-le, take_more}
+use Rattle.std.proofs.Common.{◌≡◌, ◌≤◌, ℕ, ◌+◌, ◌-◌, List, [], ◌∷◌, Option, Some, None, length, take, drop, map, arith}
+use Rattle.std.proofs.lemmas.List.{length-drop, length-take-le}
 use Rattle.wz_types.specs.declared.value.Value.{Value}
 use Rattle.wz_code.specs.Trees.{Code}
-use Rattle.wz_machine.specs.Terms.{Standing}
-use Rattle.wz_machine.specs.Frames.{frame_count, local_count, term_of, frames_in_all, locals_in_all}
+use Rattle.wz_machine.specs.Frames.{frame_count, local_count, term_of}
 use Rattle.wz_machine.specs.Contexts.{Layer, frame_layers, layer_locals}
 use Rattle.wz_machine.specs.Flat.{Opened, locals_in, layer_of, layers_of, layers_in, content_of, results_of}
 use Rattle.wz_machine.specs.Stacks.{EntryKind, CallEntry, BlockEntry, LoopEntry, Entry, StackParts, open_kind, opened_of, flat_of, stacks_term, IsKindIn, AreStacked, IsStacked, first_values, without}
-use Rattle.wz_machine.specs.Standings.{Asking, StacksWork, ValuesWork, StandingParts, standing_from, standing_of, stack_of, IsStandingFrom}
+use Rattle.wz_machine.specs.Standings.{Asking, StacksWork, standing_from, IsStandingFrom}
 use Rattle.wz_machine.proofs.PutLemmas.{still_stacked}
-use Rattle.wz_machine.proofs.StandingLemmas.{stack_push}
 use Rattle.wz_machine.proofs.ContextLemmas.{frames_within, locals_within}
 
 -- ---- frames
@@ -86,28 +84,3 @@ pub locals_standing : (question : Option Asking) (count : ℕ) (s : StackParts) 
     → local_count (term_of (standing_from question count (StacksWork s))) ≡ s.top.frame_locals
 locals_standing None count s is standing = locals_counted s is
 locals_standing (Some asking) count s is standing = locals_counted (without count s) (without_stacked s count is standing.0)
-
--- values alone have none
-pub frames_values : (question : Option Asking) (count : ℕ) (values : List Value) → frame_count (term_of (standing_from question count (ValuesWork values))) ≡ 0
-frames_values None count values = refl
-frames_values (Some asking) count values = refl
-
-pub locals_values : (question : Option Asking) (count : ℕ) (values : List Value) → local_count (term_of (standing_from question count (ValuesWork values))) ≡ 0
-locals_values None count values = refl
-locals_values (Some asking) count values = refl
-
--- ---- of all terms, one by one
-
-pub frames_more : (xs : List StandingParts) (i : ℕ) (x : StandingParts) (count : ℕ) → i < length xs → x ≡ get_or xs i x → count ≡ frame_count (term_of (standing_of x))
-    → frames_in_all (stack_of (take (i + 1) xs)) ≡ frames_in_all (stack_of (take i xs)) + count
-frames_more xs i x count lt is e =
-    let more : take (i + 1) xs ≡ take i xs ++ x ∷ [] = take_more xs i x lt ∙ ap (λ (y : StandingParts). take i xs ++ y ∷ []) (sym is) in
-    let stack = ap (λ (ys : List StandingParts). frames_in_all (stack_of ys)) more ∙ ap (λ (stack : List Standing). frames_in_all stack) (stack_push (take i xs) x) in
-    omega (arith, stack, e)
-
-pub locals_more : (xs : List StandingParts) (i : ℕ) (x : StandingParts) (count : ℕ) → i < length xs → x ≡ get_or xs i x → count ≡ local_count (term_of (standing_of x))
-    → locals_in_all (stack_of (take (i + 1) xs)) ≡ locals_in_all (stack_of (take i xs)) + count
-locals_more xs i x count lt is e =
-    let more : take (i + 1) xs ≡ take i xs ++ x ∷ [] = take_more xs i x lt ∙ ap (λ (y : StandingParts). take i xs ++ y ∷ []) (sym is) in
-    let stack = ap (λ (ys : List StandingParts). locals_in_all (stack_of ys)) more ∙ ap (λ (stack : List Standing). locals_in_all stack) (stack_push (take i xs) x) in
-    omega (arith, stack, e)

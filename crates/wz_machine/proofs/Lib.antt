@@ -11,4 +11,3 @@ pub mod RoomLemmas
 pub mod StackLemmas
 pub mod CountLemmas
 pub mod StandingLemmas
-pub mod ReplyLemmas

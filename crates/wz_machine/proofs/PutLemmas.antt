@@ -1,11 +1,9 @@
--- Values that are put into a term from outside, and the term that a call begins with, over flat stacks.
+-- Values that are put into a term from outside, over flat stacks.
 use Rattle.std.proofs.Common.{◌≡◌, ◌≤◌, ℕ, ◌+◌, ◌-◌, List, [], ◌∷◌, ◌++◌, length, take, drop, reverse, refl, ap, ◌∙◌, sym, arith}
-use Rattle.std.proofs.lemmas.List.{take_all, drop_all, reverse-reverse, take-take, drop-take, length-take-le}
+use Rattle.std.proofs.lemmas.List.{reverse-reverse, drop-take, length-take-le}
 use Rattle.wz_types.specs.declared.value.Value.{Value}
-use Rattle.wz_code.specs.Trees.{Code}
-use Rattle.wz_machine.specs.Terms.{Innermost, Frame}
 use Rattle.wz_machine.specs.Contexts.{FrameContent, Layer, LabelLayer, FrameLayer, in_layer, term_in}
-use Rattle.wz_machine.specs.Flat.{OpenFunction, FlatStacks, results_of, layers_in, content_of, flat_term, HasPlaces}
+use Rattle.wz_machine.specs.Flat.{FlatStacks, results_of, layers_in, content_of, flat_term, HasPlaces}
 use Rattle.wz_machine.specs.Stacks.{StackParts, flat_of, stacks_term, IsStacked, last_values, first_values, without, with_more}
 use Rattle.wz_machine.specs.Replies.{put_inside, put}
 use Rattle.wz_machine.proofs.FlatLemmas.{leaving_term}
@@ -26,32 +24,7 @@ flat_put m pushed placed le =
     ∙ leaving_term m.top m.outer m.values (reverse pushed) placed le
     ∙ ap (λ (values : List Value). flat_term (record m { values = m.values ++ values })) (reverse-reverse pushed)
 
--- ---- the term of a call
-
--- a call's stacks as it begins: its locals alone
-abbrev pub started_stacks : ℕ → List Value → Code → FlatStacks
-started_stacks results locals code = record {
-  top = record { kind = OpenFunction; rest = code; arity = results; base = 0; locals_at = 0; locals_end = length locals; height = length locals };
-  outer = [];
-  values = locals;
-}
-
-pub flat_start : (results : ℕ) (locals : List Value) (code : Code) → flat_term (started_stacks results locals code) ≡ Frame results locals (Innermost [] code)
-flat_start results locals code =
-    ap (λ (ls : List Value). Frame results ls (Innermost (reverse (drop (length locals) locals)) code)) (take_all (length locals - 0) locals (omega arith))
-    ∙ ap (λ (own : List Value). Frame results locals (Innermost (reverse own) code)) (drop_all (length locals) locals (omega arith))
-
 -- ---- values in the place of the last ones
-
--- so many of the values are used; `mid` has room for more
-pub replaced_values : (old mid new more : List Value) (have count : ℕ) → have ≤ length old → count ≤ have → take have mid ≡ take have old
-    → take (have - count + length more) new ≡ take (have - count) mid ++ more
-    → take (have - count + length more) new ≡ first_values count (take have old) ++ more
-replaced_values old mid new more have count used le same written =
-    let len : length (take have old) ≡ have = length-take-le have old used in
-    let front : take (have - count) mid ≡ take (have - count) (take have old) =
-    sym (take-take (have - count) have mid (omega arith)) ∙ ap (λ (xs : List Value). take (have - count) xs) same in
-    written ∙ ap (λ (xs : List Value). xs ++ more) (front ∙ ap (λ (n : ℕ). take (n - count) (take have old)) (sym len))
 
 -- what always holds of the stacks does so with other values, if those of the blocks are there
 pub still_stacked : (s : StackParts) (values : List Value) → IsStacked s → s.top.height ≤ length values → IsStacked (record s { values = values })

@@ -1,14 +1,12 @@
 -- The stack of terms in a machine: its top, and what an answer makes of it.
-use Rattle.std.proofs.Common.{◌≡◌, ◌≤◌, ◌<◌, ℕ, ◌+◌, ◌-◌, List, [], ◌∷◌, ◌++◌, Option, Some, None, Bool, true, false, IsSome, IsTrue, ◌↔◌, length, take, drop, reverse, map, get_or, refl, ap, sym, ◌∙◌, arith}
-use Rattle.std.proofs.lemmas.List.{take_all, take_more, take_more_set, length-set, length-map, length-reverse, reverse-append}
+use Rattle.std.proofs.Common.{◌≡◌, ◌≤◌, ◌<◌, ℕ, ◌+◌, ◌-◌, List, [], ◌∷◌, ◌++◌, Option, Some, None, IsSome, length, take, map, get_or, refl, ap, sym, ◌∙◌, arith}
+use Rattle.std.proofs.lemmas.List.{take_all, take_more, take_more_set, length-set, reverse-append}
 use Rattle.std.proofs.Math.ListN.{set}
 use Rattle.wz_types.specs.declared.value.Value.{Value}
-use Rattle.wz_types.specs.FunctionType.{FunctionType}
-use Rattle.wz_machine.specs.declared.questions.HostTarget.{HostTarget}
-use Rattle.wz_machine.specs.Terms.{BareValues, AskFloat, AskMemory, AskTable, AskHost, Standing, Runs, Waits}
-use Rattle.wz_machine.specs.Replies.{put, may_enter}
-use Rattle.wz_machine.specs.Standings.{WorkParts, ValuesWork, work_term, work_without, rest_of, Asking, AskingFloat, AskingMemory, AskingTable, AskingHost, StandingParts, question_of, standing_from, standing_of, stack_of, asking_in, asking_of_top}
-use Rattle.wz_machine.specs.Waiting.{answered_stack, below_top, may_enter_asking}
+use Rattle.wz_machine.specs.Terms.{Standing, Runs}
+use Rattle.wz_machine.specs.Replies.{put}
+use Rattle.wz_machine.specs.Standings.{WorkParts, work_term, work_without, rest_of, Asking, AskingFloat, AskingMemory, AskingTable, AskingHost, StandingParts, question_of, standing_from, standing_of, stack_of, asking_in, asking_of_top}
+use Rattle.wz_machine.specs.Waiting.{answered_stack}
 
 -- ---- the topmost is the last
 
@@ -50,20 +48,6 @@ asking_top xs d some =
     let top = get_or xs (length xs - 1) d in
     ap (λ (stack : List Standing). asking_of_top stack) (stack_top xs d some) ∙ asking_from top.question top.count top.work (stack_of (take (length xs - 1) xs))
 
--- ---- a call may come
-
-pub may_enter_is : (stack : List Standing) (empty : Bool) → IsTrue empty ↔ (length stack ≡ 0) → may_enter stack ≡ may_enter_asking empty (asking_of_top stack)
-may_enter_is [] empty test = sym (test.1 refl)
-may_enter_is (Runs term ∷ below) true test = absurd (cc (test.0 refl))
-may_enter_is (Runs term ∷ below) false test = refl
-may_enter_is (Waits (AskFloat op operands) rest ∷ below) empty test = refl
-may_enter_is (Waits (AskMemory index by) rest ∷ below) empty test = refl
-may_enter_is (Waits (AskTable index by reference) rest ∷ below) empty test = refl
-may_enter_is (Waits (AskHost target arguments type) rest ∷ below) empty test = refl
-
-pub length-stack : (xs : List StandingParts) → length (stack_of xs) ≡ length xs
-length-stack xs = length-map (reverse xs) (λ (parts : StandingParts). standing_of parts) ∙ length-reverse xs
-
 -- ---- an answer
 
 answered_from : (question : Option Asking) (count : ℕ) (work : WorkParts) (values : List Value) (below : List Standing) → IsSome question
@@ -91,16 +75,3 @@ answered_last xs n old new values len some is asks answered =
     let question : asking_of_top (stack_of xs) ≡ (get_or xs (length xs - 1) old).question = asking_top xs old more in
     ap (λ (k : ℕ). stack_of (set xs (k - 1) new)) len
     ∙ answered_top xs new old values more (rw question at asks) (answered ∙ ap (λ (parts : StandingParts). Runs (put values (rest_of parts))) (sym last))
-
--- the topmost is gone
-pub below_push : (standings : List StandingParts) (top : StandingParts) → below_top (stack_of (standings ++ top ∷ [])) ≡ stack_of standings
-below_push standings top = ap (λ (stack : List Standing). below_top stack) (stack_push standings top)
-
--- ---- a call
-
--- values that are all operands
-pub all_operands : (values : List Value) (target : HostTarget) (type : FunctionType)
-    → Waits (AskHost target values type) (BareValues []) ≡ standing_from (Some (AskingHost target type)) (length values) (ValuesWork values)
-all_operands values target type =
-    let none : length values - length values ≡ 0 = omega arith in
-    sym (ap (λ (n : ℕ). Waits (AskHost target (drop n values) type) (BareValues (reverse (take n values)))) none)

@@ -29,11 +29,11 @@ const MOST_TERMS: usize = 0x8000_0000;
 /// Contracts see it as the record of the bodies, the store and the terms.
 #[derive(Drop)]
 pub struct Machine<'m, M: Linear> {
-    alloc: Global,
-    bodies: &'m [Body],
-    store: Store<'m, M>,
+    pub(crate) alloc: Global,
+    pub(crate) bodies: &'m [Body],
+    pub(crate) store: Store<'m, M>,
     /// The topmost is the last.
-    standings: Vec<Standing<'m>>,
+    pub(crate) standings: Vec<Standing<'m>>,
 }
 
 impl<'m, M: Linear> Model for Machine<'m, M> {
