@@ -5,3 +5,4 @@ pub mod MoveLemmas
 pub mod ContextLemmas
 pub mod FlatLemmas
 pub mod TypedLemmas
+pub mod PlainLemmas

@@ -27,3 +27,5 @@ pub mod Laws
 pub mod Contexts
 pub mod Flat
 pub mod TypedState
+pub mod PlainSteps
+pub mod Operands

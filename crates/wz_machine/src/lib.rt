@@ -12,6 +12,7 @@
 #![tactic(auto)]
 
 pub mod laws;
+mod plain;
 mod questions;
 
 pub use questions::{FloatReply, Growth, HostTarget};
