@@ -6,3 +6,4 @@ pub mod ContextLemmas
 pub mod FlatLemmas
 pub mod TypedLemmas
 pub mod PlainLemmas
+pub mod ReplyLemmas

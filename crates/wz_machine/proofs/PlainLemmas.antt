@@ -1,26 +1,35 @@
 -- What the answers of groups of plain instructions say of the step of section 4.4 of the Core Specification.
-use Rattle.std.proofs.Common.{◌≡◌, ◌≤◌, ◌<◌, ◌+◌, ◌-◌, ℕ, List, [], ◌∷◌, ◌++◌, Option, Some, None, take, drop, reverse, length, refl, ap, sym, ◌∙◌, arith}
+use Rattle.std.proofs.Common.{◌≡◌, ◌↔◌, ◌≤◌, ◌+◌, ◌-◌, ℕ, nat_le, Bool, true, false, if◌then◌else◌, IsTrue, List, [], ◌∷◌, ◌++◌, Option, Some, None, option_map, slice_get, take, drop, reverse, length, refl, ap, sym, subst, ◌∙◌, arith}
+use Rattle.std.proofs.lemmas.Bool.Decides.{nat_tests}
+use Rattle.std.specs.Bool.{OnTrue, OnFalse}
 use Rattle.std.proofs.lemmas.List.{reverse-append, reverse-reverse, length-take-le, drop_at}
 use Rattle.wz_types.specs.declared.types.ValType.{ValType}
 use Rattle.wz_types.specs.declared.value.Value.{Value}
 use Rattle.wz_code.specs.declared.numeric.NumOp.{NumOp}
 use Rattle.wz_code.specs.Numeric.{types_of}
+use Rattle.wz_types.specs.declared.value.Value.TheVariants.{I32}
+use Rattle.wz_types.specs.declared.trap.TrapKind.TheVariants.{MemoryBounds}
+use Rattle.wz_code.specs.declared.accesses.AccessShape.{AccessShape}
+use Rattle.wz_linear.specs.Bytes.{IsWithin, bytes_of, written}
 use Rattle.wz_num.specs.declared.answer.NumAnswer.{NumAnswer}
-use Rattle.wz_num.specs.declared.answer.NumAnswer.TheVariants as answer
 use Rattle.wz_num.specs.Number.{number}
 use Rattle.wz_machine.specs.declared.plain.Plain.{Plain}
 use Rattle.wz_machine.specs.declared.plain.Plain.TheVariants.{Went, Trapped, Stuck, Special}
 use Rattle.wz_store.specs.declared.function.Function.{Function}
-use Rattle.wz_store.specs.State.{StateOf}
-use Rattle.wz_store.specs.Changes.{Change, Nothing, applied}
+use Rattle.wz_store.specs.State.{Memory, StateOf}
+use Rattle.wz_store.specs.Changes.{Nothing, WriteMemory}
+use Rattle.wz_store.specs.Lending.{with_contents_at}
 use Rattle.wz_bulk.specs.declared.bulk.Bulk.{Bulk}
 use Rattle.wz_bulk.specs.Effects.{BulkEffect, Makes, Aborts, Misfits, bulk_answer, state_after}
+use Rattle.wz_bulk.proofs.OptionLemmas.{found_of}
+use Rattle.wz_bulk.proofs.MemoryLemmas.{contents_written, contents_kept}
 use Rattle.wz_machine.specs.BulkSteps.{bulk_step}
+use Rattle.wz_machine.specs.MemorySteps.{store_step, write_effect, bits_of_value}
 use Rattle.wz_machine.specs.Terms.{AskFloat}
-use Rattle.wz_machine.specs.Outcomes.{Effect, Yields, Poses, Fails, HasNoRule}
+use Rattle.wz_machine.specs.Outcomes.{Effect, Yields, Poses, Fails}
 use Rattle.wz_machine.specs.NumericSteps.{operation_step, result_effect}
-use Rattle.wz_machine.specs.PlainSteps.{used, AnswerReply, NumberReply, IsAsked, operand_count, count_of, StoreReply, ChangedBy}
-use Rattle.wz_machine.specs.Operands.{IsOnTop, reply_of}
+use Rattle.wz_machine.specs.PlainSteps.{used, AnswerReply, NumberReply, operand_count, count_of, StoreReply}
+use Rattle.wz_machine.specs.Operands.{IsOnTop, HasNumber, reply_of}
 
 -- ---- operands of a question
 
@@ -103,3 +112,45 @@ pub bulk_reply : (reply : Plain) (rule : Effect) (below have : ℕ) (own : List 
     → StoreReply reply rule have own store after
 bulk_reply reply rule below have own store after answer effect room is answered left replied =
     rw (replied, answered, is, left) (bulk_replies below have own store effect room)
+
+-- ---- stores
+
+fits : (place count size : ℕ) (done : Bool) → IsTrue done ↔ (place + count ≤ size) → nat_le (place + count) size ≡ done
+fits place count size true test = let h = test.0 refl in grind (arith, nat_tests)
+fits place count size false test = grind (arith, nat_tests, test.1)
+
+stored : (done : Bool) (shape : AccessShape) (place index bits below have : ℕ) (own : List Value) (s : StateOf Function) (memory : Memory) (new : List ℕ) → below ≤ have
+    → slice_get s.memories index ≡ Some memory → nat_le (place + shape.bytes) (length memory.bytes) ≡ done
+    → OnTrue done (new ≡ written memory.bytes place (bytes_of shape.bytes bits)) → OnFalse done (new ≡ memory.bytes)
+    → StoreReply (if done then Went below else Trapped MemoryBounds) (write_effect shape place index memory (Some bits) (used below own)) have own s (with_contents_at s index new)
+stored true shape place index bits below have own s memory new room there within wrote left =
+    let bytes = bytes_of shape.bytes bits in
+    let effect : write_effect shape place index memory (Some bits) (used below own) ≡ Yields (WriteMemory index place bytes) (used below own) =
+    ap (λ b. if b then Yields (WriteMemory index place bytes) (used below own) else Fails MemoryBounds) within in
+    (room, record { change = WriteMemory index place bytes; yields = effect; leaves = contents_written s index place bytes memory new there wrote })
+stored false shape place index bits below have own s memory new room there within wrote left =
+    let bytes = bytes_of shape.bytes bits in
+    (ap (λ b. if b then Yields (WriteMemory index place bytes) (used below own) else Fails MemoryBounds) within, contents_kept s index memory new there left)
+
+-- a store whose operands are the last of the values, through a memory that was lent
+pub store_replies : (reply : Plain) (done : Bool) (shape : AccessShape) (offset index base place bits have : ℕ) (value : Value) (own : List Value) (s : StateOf Function)
+    (old new : List ℕ) → place ≡ base + offset → IsOnTop value have own → HasNumber base (have - 1) own → bits_of_value shape.value value ≡ Some bits
+    → Some old ≡ option_map (λ (m : Memory). m.bytes) (slice_get s.memories index) → IsTrue done ↔ IsWithin old place shape.bytes
+    → OnTrue done (new ≡ written old place (bytes_of shape.bytes bits)) → OnFalse done (new ≡ old)
+    → reply ≡ (if done then Went (have - 2) else Trapped MemoryBounds)
+    → StoreReply reply (store_step shape offset index (slice_get s.memories index) (used have own)) have own s (with_contents_at s index new)
+store_replies reply done shape offset index base place bits have value own s old new at top under fit there within wrote left replied =
+    let m = found_of (λ (m : Memory). m.bytes) (slice_get s.memories index) old (sym there) in
+    let memory : Memory = m.0 in
+    let same : old ≡ memory.bytes = sym m.2 in
+    let rule : store_step shape offset index (slice_get s.memories index) (used have own) ≡ write_effect shape place index memory (Some bits) (used (have - 2) own) =
+    ap (λ slot. store_step shape offset index slot (used have own)) m.1
+    ∙ ap (λ vs. store_step shape offset index (Some memory) vs) (two_values own have (I32 base) value top under)
+    ∙ ap (λ b. write_effect shape (base + offset) index memory b (used (have - 2) own)) fit
+    ∙ ap (λ n. write_effect shape n index memory (Some bits) (used (have - 2) own)) (sym at) in
+    let test : nat_le (place + shape.bytes) (length memory.bytes) ≡ done =
+    ap (λ (b : List ℕ). nat_le (place + shape.bytes) (length b)) (sym same) ∙ fits place shape.bytes (length old) done within in
+    let P : List ℕ → Type 0 = λ b. OnTrue done (new ≡ written b place (bytes_of shape.bytes bits)) in
+    let Q : List ℕ → Type 0 = λ b. OnFalse done (new ≡ b) in
+    rw (replied, rule)
+    (stored done shape place index bits (have - 2) have own s memory new (omega arith) m.1 test (subst P same wrote) (subst Q same left))

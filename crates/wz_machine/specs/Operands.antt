@@ -1,12 +1,14 @@
 -- Operands as the last of a block's values (section 4.2.14 of the Core Specification), for the code that takes them by their number.
-use Rattle.std.specs.Prelude.{◌≡◌, ◌≤◌, ◌-◌, ℕ, List, [], ◌∷◌, Option, Some, None}
+use Rattle.std.specs.Prelude.{◌≡◌, ◌≤◌, ◌-◌, ◌*◌, ℕ, List, ◌∷◌, Option, Some, None}
 use Rattle.wz_types.specs.declared.value.Reference.{Reference}
 use Rattle.wz_types.specs.declared.value.Value.{Value}
 use Rattle.wz_types.specs.declared.value.Value.TheVariants.{I32, Ref}
+use Rattle.wz_code.specs.declared.accesses.AccessShape.{AccessShape}
 use Rattle.wz_bulk.specs.declared.bulk.Bulk.{Bulk}
 use Rattle.wz_bulk.specs.declared.bulk.Bulk.TheVariants as bulk
 use Rattle.wz_machine.specs.declared.plain.Plain.{Plain}
 use Rattle.wz_machine.specs.declared.plain.Plain.TheVariants.{Went, Trapped, Stuck}
+use Rattle.wz_machine.specs.MemorySteps.{value_of_bits, extension, bits_in}
 use Rattle.wz_machine.specs.PlainSteps.{used}
 
 -- ---- the last of so many values
@@ -45,3 +47,8 @@ abbrev pub reply_of : ℕ → Bulk → Plain
 reply_of below bulk.Did = Went below
 reply_of below (bulk.Trap kind) = Trapped kind
 reply_of below bulk.Stuck = Stuck
+
+-- ---- the value that a load makes of the number that its bytes are
+
+abbrev pub loaded_value : AccessShape → ℕ → Option Value
+loaded_value shape number = value_of_bits shape.value (extension shape.signed (8 * shape.bytes) (bits_in shape.value) number)

@@ -6,7 +6,7 @@ use Rattle.wz_types.specs.declared.types.ValType.{ValType}
 use Rattle.wz_types.specs.declared.value.Value.{Value}
 use Rattle.wz_code.specs.declared.numeric.NumOp.{NumOp}
 use Rattle.wz_code.specs.declared.instr.Instr.{Instr}
-use Rattle.wz_code.specs.declared.instr.Instr.TheVariants.{Unreachable, Nop, Block, Loop, If, Br, BrIf, BrTable, Return, Call, CallIndirect, RefNull, RefIsNull, RefFunc, Drop, Select, SelectTyped, LocalGet, LocalSet, LocalTee, GlobalGet, GlobalSet, TableGet, TableSet, TableInit, ElemDrop, TableCopy, TableGrow, TableSize, TableFill, Access, MemorySize, MemoryGrow, MemoryInit, DataDrop, MemoryCopy, MemoryFill, I32Const, I64Const, F32Const, F64Const, Num}
+use Rattle.wz_code.specs.declared.instr.Instr.TheVariants.{Block, Loop, If, Br, BrIf, BrTable, Return, Call, CallIndirect, TableGrow, MemoryGrow, Num}
 use Rattle.wz_code.specs.BodyParts.{BodyParts}
 use Rattle.wz_code.specs.Numeric.{types_of}
 use Rattle.wz_code.specs.Trees.{Code, Then, leaf_in, headed_in}
