@@ -5,5 +5,9 @@ pub mod MoveLemmas
 pub mod ContextLemmas
 pub mod FlatLemmas
 pub mod TypedLemmas
+pub mod RoomLemmas
+pub mod StackLemmas
+pub mod KeptLemmas
+pub mod LandingLemmas
 pub mod PlainLemmas
 pub mod ReplyLemmas

@@ -26,6 +26,10 @@ pub mod Within
 pub mod Laws
 pub mod Contexts
 pub mod Flat
+pub mod Stacks
+pub mod Kept
+pub mod Opening
+pub mod Landing
 pub mod TypedState
 pub mod PlainSteps
 pub mod Operands

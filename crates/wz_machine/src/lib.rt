@@ -12,7 +12,10 @@
 #![tactic(auto)]
 
 pub mod laws;
+mod blocks;
 mod plain;
 mod questions;
+mod room;
+mod stacks;
 
 pub use questions::{FloatReply, Growth, HostTarget};
