@@ -11,3 +11,7 @@ pub mod RoomLemmas
 pub mod StackLemmas
 pub mod CountLemmas
 pub mod StandingLemmas
+pub mod KeptLemmas
+pub mod LandingLemmas
+pub mod PlainLemmas
+pub mod ReplyLemmas

@@ -1,5 +1,6 @@
 -- The machine's flat stacks as terms: calls from outside, and the parts of the list of values.
 use Rattle.std.proofs.Common.{◌≡◌, ◌≤◌, ℕ, ◌+◌, ◌-◌, List, [], ◌∷◌, ◌++◌, length, take, drop, reverse, refl, ap, sym, ◌∙◌, arith, take_all}
+use Rattle.std.proofs.lemmas.List.{take-take, length-take-le}
 use Rattle.std.proofs.Math.Seq.{drop-length}
 use Rattle.wz_types.specs.declared.value.Value.{Value}
 use Rattle.wz_code.specs.declared.instr.Instr.{Instr}
@@ -22,3 +23,8 @@ started-term body results arguments is_body =
     let own : drop (length values) values ≡ [] = drop-length values in
     let code : code_in body (block_at body.blocks 0) ≡ tree_of body 0 = block-code body 0 is_body in
     cc
+
+-- ---- a block is entered
+
+pub take-within : (n k : ℕ) (xs : List Value) → n ≤ k → k ≤ length xs → length (take n (take k xs)) ≡ n
+take-within n k xs le within = ap length (take-take n k xs le) ∙ length-take-le n xs (omega arith)

@@ -28,6 +28,8 @@ pub mod Contexts
 pub mod Flat
 pub mod Stacks
 pub mod Kept
+pub mod Opening
+pub mod Landing
 pub mod TypedState
 pub mod Callees
 pub mod Growths
@@ -36,3 +38,5 @@ pub mod Standings
 pub mod Keeping
 pub mod Machines
 pub mod Waiting
+pub mod PlainSteps
+pub mod Operands

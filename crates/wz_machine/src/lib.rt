@@ -12,12 +12,14 @@
 #![tactic(auto)]
 
 mod answers;
+mod blocks;
 mod callee;
 mod counts;
 mod growing;
 pub mod laws;
 mod machine;
 mod operands;
+mod plain;
 mod questions;
 mod room;
 mod stacks;
