@@ -30,6 +30,7 @@ pub mod Stacks
 pub mod Kept
 pub mod Opening
 pub mod Landing
+pub mod Turns
 pub mod TypedState
 pub mod Callees
 pub mod Growths

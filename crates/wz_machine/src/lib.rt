@@ -13,6 +13,7 @@
 
 mod answers;
 mod blocks;
+mod branches;
 mod callee;
 mod counts;
 mod growing;
@@ -24,6 +25,7 @@ mod questions;
 mod room;
 mod stacks;
 mod standing;
+mod turn;
 mod waiting;
 
 pub use answers::{EnterFault, GrowFault, HostFault, NotNow, Tick};
