@@ -18,3 +18,6 @@ pub mod BranchLemmas
 pub mod StepLemmas
 pub mod PlainLemmas
 pub mod ReplyLemmas
+pub mod EntryLemmas
+pub mod ControlLemmas
+pub mod TickLemmas

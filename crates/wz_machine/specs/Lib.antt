@@ -31,6 +31,7 @@ pub mod Kept
 pub mod Opening
 pub mod Landing
 pub mod Turns
+pub mod Ticks
 pub mod TypedState
 pub mod Callees
 pub mod Growths

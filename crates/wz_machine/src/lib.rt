@@ -15,6 +15,7 @@ mod answers;
 mod blocks;
 mod branches;
 mod callee;
+mod control;
 mod counts;
 mod growing;
 pub mod laws;
