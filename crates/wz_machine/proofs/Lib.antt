@@ -13,9 +13,7 @@ pub mod CountLemmas
 pub mod StandingLemmas
 pub mod KeptLemmas
 pub mod LandingLemmas
-<<<<<<< HEAD
 pub mod PlainLemmas
 pub mod ReplyLemmas
-=======
 pub mod ListLemmas
->>>>>>> 97746149be977868d16837a390eb24c7c1c2fc46
+pub mod CallLemmas

@@ -12,9 +12,11 @@
 #![tactic(auto)]
 
 mod answers;
+mod asking;
 mod blocks;
 mod branches;
 mod callee;
+mod calls;
 mod counts;
 mod growing;
 pub mod laws;
