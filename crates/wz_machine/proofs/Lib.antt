@@ -17,3 +17,4 @@ pub mod PlainLemmas
 pub mod ReplyLemmas
 pub mod ListLemmas
 pub mod CallLemmas
+pub mod AskLemmas

@@ -40,6 +40,10 @@ stepped s rest have = record { top = record s.top { rest = rest }; outer = s.out
 abbrev pub ComesTo : State → StackParts → List Instr → Outcome → Type 0
 ComesTo st s rest outcome = content_reduct st (content_of (flat_of s)) ≡ outcome_reduct (locals_in (opened_of s.top) s.values) (code_in s.top.body rest) outcome
 
+-- what the machine says where the innermost code comes to this
+abbrev pub OutcomeTurned : StackParts → List Instr → Outcome → AskTurn → StackParts → Type 0
+OutcomeTurned before rest outcome result now = (st : State) → ComesTo st before rest outcome → AskTurned (step st (stacks_term before)) before result now
+
 -- what the innermost block has of its own, the last pushed first
 abbrev pub own_stack : StackParts → List Value
 own_stack s = reverse (drop s.top.height s.values)

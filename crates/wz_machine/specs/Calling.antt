@@ -5,15 +5,7 @@ use Rattle.wz_types.specs.Zeros.{zeros_of}
 use Rattle.wz_code.specs.declared.instr.Instr.{Instr}
 use Rattle.wz_code.specs.BodyParts.{BodyParts, block_at}
 use Rattle.wz_valid_code.specs.Context.{locals_of_runs}
-use Rattle.wz_machine.specs.State.{State}
-use Rattle.wz_machine.specs.CallSteps.{call_step}
-use Rattle.wz_machine.specs.Step.{step}
-use Rattle.wz_machine.specs.declared.asking.AskTurn.{AskTurn}
-use Rattle.wz_machine.specs.declared.callee.Callee.{Callee}
-use Rattle.wz_machine.specs.Stacks.{CallEntry, Entry, StackParts, stacks_term}
-use Rattle.wz_machine.specs.Callees.{callable_in}
-use Rattle.wz_machine.specs.Asks.{AskTurned, ComesTo}
-use Rattle.std.specs.Prelude.{Some}
+use Rattle.wz_machine.specs.Stacks.{CallEntry, Entry, StackParts}
 
 -- the locals that are no parameters
 abbrev pub zeroed_locals : BodyParts → List Value

@@ -1,15 +1,29 @@
 //! Calls (Core Specification 2.0, sections 4.4.8 and 4.4.10).
 
-ghost use Rattle.std.specs.Prelude.{◌≡◌, ◌≤◌, ◌<◌, ◌+◌, [], ◌∷◌, ◌++◌, length, take, vec_len, vec_capacity, OnOk, OnErr, IfOk};
+ghost use Rattle.std.specs.Prelude.{◌≡◌, ◌≤◌, ◌<◌, ◌+◌, [], ◌∷◌, ◌++◌, length, take, Some, vec_len, vec_capacity, OnOk, OnErr, IfOk};
 ghost use Rattle.wz_types.specs.Zeros.{zeros_of};
 ghost use Rattle.wz_code.specs.BlockRule.{IsBody};
 ghost use Rattle.wz_valid_code.specs.Context.{locals_of_runs};
+ghost use Rattle.wz_code.specs.declared.instr.Instr.TheVariants.{Call};
+ghost use Rattle.wz_machine.specs.State.{state_of};
+ghost use Rattle.wz_machine.specs.CallSteps.{call_step};
+ghost use Rattle.wz_machine.specs.Step.{step};
+ghost use Rattle.wz_machine.specs.Stacks.{stacks_term};
+ghost use Rattle.wz_machine.specs.Turns.{own_of};
+ghost use Rattle.wz_machine.specs.Callees.{callable_in};
+ghost use Rattle.wz_machine.specs.Asks.{AskTurned, OutcomeTurned};
 ghost use Rattle.wz_machine.specs.Calling.{with_call};
 
+use crate::asking::AskTurn;
+use crate::callee::{Callee, CalleeCode, callee_at};
+use crate::questions::HostTarget;
 use crate::room::{MOST, move_down, put_locals};
 use crate::stacks::{Kind, Opened, Stacks, code_of};
+use crate::standing::Pending;
 use std::alloc::AllocError;
 use wz_code::{Body, Instr};
+use wz_linear::Linear;
+use wz_store::Store;
 use wz_types::{ValType, Value};
 
 /// Puts the locals of these runs behind the first `have` of the used values, in the place of the
@@ -89,5 +103,63 @@ impl<'m> Stacks<'m> {
         };
         self.have = have + zeros;
         Ok(())
+    }
+
+    /// Calls this function with the last of the first `have` values as arguments: its frame is
+    /// entered, or the host's function is asked for.
+    fn call_callee(
+        &mut self,
+        rest: &'m [Instr],
+        callee: Callee<'m>,
+        have: usize,
+    ) -> Result<AskTurn<'m>, AllocError>
+        requires values { have ≤ length self.old.values }
+        requires own { self.old.top.height ≤ have }
+        ensures turned { IfOk result (λ turn. OutcomeTurned self.old rest.now
+            (call_step (Some (callable_in callee.entry)) (own_of self.old have)) turn self.new) }
+        ensures refused { OnErr result (self.new ≡ self.old) }
+    {
+        let params = callee.kind.params().len();
+        if have - self.top.height < params {
+            return Ok(AskTurn::Stuck);
+        }
+        match callee.code {
+            CalleeCode::Own(body) => {
+                let results = callee.kind.results().len();
+                self.push_call(rest, body, have, params, results)?;
+                Ok(AskTurn::Went)
+            }
+            CalleeCode::Import(number) => {
+                self.step_over(rest, have);
+                let pending = Pending::Host {
+                    target: HostTarget::Import(number),
+                    kind: callee.kind,
+                };
+                Ok(AskTurn::Asks {
+                    pending,
+                    count: params,
+                })
+            }
+        }
+    }
+
+    /// `call x`.
+    pub fn call<M: Linear>(
+        &mut self,
+        rest: &'m [Instr],
+        function: u32,
+        bodies: &'m [Body],
+        store: &Store<'m, M>,
+    ) -> Result<AskTurn<'m>, AllocError>
+        requires { self.old.top.rest ≡ Call function ∷ rest.now }
+        ensures turned { IfOk result (λ turn. AskTurned
+            (step (state_of bodies.now store.now) (stacks_term self.old)) self.old turn self.new) }
+        ensures refused { OnErr result (self.new ≡ self.old) }
+    {
+        let have = self.have;
+        match callee_at(bodies, store, function) {
+            Some(callee) => self.call_callee(rest, callee, have),
+            None => Ok(AskTurn::Stuck),
+        }
     }
 }
