@@ -21,3 +21,5 @@ pub mod ReplyLemmas
 pub mod EntryLemmas
 pub mod ControlLemmas
 pub mod TickLemmas
+pub mod CallLemmas
+pub mod AskLemmas

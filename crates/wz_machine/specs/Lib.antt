@@ -42,3 +42,5 @@ pub mod Machines
 pub mod Waiting
 pub mod PlainSteps
 pub mod Operands
+pub mod Asks
+pub mod Calling

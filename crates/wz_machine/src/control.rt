@@ -5,7 +5,6 @@ ghost use Rattle.wz_code.specs.BodyParts.{block_at};
 ghost use Rattle.wz_code.specs.BlockRule.{IsBody};
 ghost use Rattle.wz_code.specs.Trees.{code_in, tree_of, arm_of};
 ghost use Rattle.wz_machine.specs.BlockSteps.{block_type};
-ghost use Rattle.wz_machine.specs.Opening.{stepped};
 ghost use Rattle.wz_machine.specs.Turns.{TurnedAnywhere, TurnedByTypes, EntryTurned, NoNumber, HasNumber, own_of};
 
 use crate::stacks::{Kind, Stacks, code_of};
@@ -46,17 +45,6 @@ fn listed(labels: &[u32], first: u32, count: u32, number: u32, last: u32) -> u32
 }
 
 impl<'m> Stacks<'m> {
-    /// Goes on behind an instruction; so many values stay.
-    #[inline]
-    pub fn step_over(&mut self, rest: &'m [Instr], have: usize)
-        requires own { self.old.top.height ≤ have }
-        requires values { have ≤ length self.old.values }
-        ensures { self.new ≡ stepped self.old rest.now have }
-    {
-        self.top.rest = rest;
-        self.have = have;
-    }
-
     /// The last value of the innermost block, where it is a number of 32 bits.
     #[inline]
     fn number(&self) -> Option<u32>
