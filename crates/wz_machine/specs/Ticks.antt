@@ -1,5 +1,5 @@
 -- What a tick of a machine answers and leaves, beside `tick_reply` of `Replies`.
-use Rattle.std.specs.Prelude.{◌≡◌, ◌≤◌, ◌+◌, ℕ, List, [], ◌∷◌, length}
+use Rattle.std.specs.Prelude.{◌≡◌, ℕ, List, [], ◌∷◌, Option, None}
 use Rattle.wz_types.specs.declared.value.Value.{Value}
 use Rattle.wz_code.specs.BodyParts.{BodyParts}
 use Rattle.wz_store.specs.Made.{StoreState}
@@ -13,7 +13,8 @@ use Rattle.wz_machine.specs.Terms.{Standing, Runs, Waits}
 use Rattle.wz_machine.specs.Step.{step}
 use Rattle.wz_machine.specs.Moves.{Event, Refused, Went, DoneEvent, Trapped, HostCall, FloatAsked, GrowAsked, StuckEvent}
 use Rattle.wz_machine.specs.Replies.{question_event, answer_reply, tick_reply}
-use Rattle.wz_machine.specs.Standings.{StandingParts, standing_of}
+use Rattle.wz_machine.specs.Stacks.{StackParts}
+use Rattle.wz_machine.specs.Standings.{StacksWork, Asking, StandingParts, standing_of}
 
 -- ---- what is seen of a tick
 
@@ -52,3 +53,10 @@ pub record StandingTicked (bodies : List BodyParts) (s : StoreState) (old : Stan
   pub event : event_of answer ≡ tick_event (state_of bodies s) (standing_of old ∷ [])
   pub store : t ≡ applied (tick_reply (state_of bodies s) (standing_of old ∷ [])).change s
   pub stack : (tick_reply (state_of bodies s) (standing_of old ∷ [])).stack ≡ left_by answer (standing_of new)
+
+-- a term that runs, and one that may wait, with so many operands
+abbrev pub asking_with : StackParts → Option Asking → ℕ → StandingParts
+asking_with stacks question count = record { work = StacksWork stacks; question = question; count = count }
+
+abbrev pub running : StackParts → StandingParts
+running stacks = asking_with stacks None 0

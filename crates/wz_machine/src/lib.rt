@@ -28,6 +28,8 @@ mod questions;
 mod room;
 mod stacks;
 mod standing;
+mod stride;
+mod tick;
 mod turn;
 mod waiting;
 
