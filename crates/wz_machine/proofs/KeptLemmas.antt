@@ -1,11 +1,11 @@
 -- The fields of the machine's stacks are kept as they should be.
-use Rattle.std.proofs.Common.{◌≡◌, ◌≤◌, ◌<◌, ℕ, suc, ◌+◌, ◌-◌, List, [], ◌∷◌, ◌++◌, length, take, drop, reverse, map, refl, ap, sym, subst, ◌∙◌, arith}
+use Rattle.std.proofs.Common.{◌≡◌, ◌≤◌, ℕ, ◌+◌, ◌-◌, List, [], ◌∷◌, ◌++◌, length, take, reverse, map, refl, ap, sym, subst, ◌∙◌, arith}
 use Rattle.std.proofs.lemmas.List.{take-take, length-take-le, map-append, reverse-append}
 use Rattle.wz_types.specs.declared.value.Value.{Value}
 use Rattle.wz_code.specs.declared.instr.Instr.{Instr}
 use Rattle.wz_machine.specs.declared.stacks.Opened.{Opened}
 use Rattle.wz_machine.specs.declared.stacks.Stacks.TheInside.{Inside}
-use Rattle.wz_machine.specs.Stacks.{EntryKind, CallEntry, BlockEntry, LoopEntry, Entry, StackParts, HasRoom, IsBlockIn, IsCallIn, IsKindIn, IsOutermost, AreStacked, IsStacked}
+use Rattle.wz_machine.specs.Stacks.{EntryKind, CallEntry, BlockEntry, LoopEntry, Entry, StackParts, HasRoom, IsBlockIn, IsKindIn, AreStacked, IsStacked}
 use Rattle.wz_machine.specs.Kept.{entry_of, stack_parts, AreKept}
 use Rattle.wz_machine.specs.Opening.{IsBlockKind, block_in, with_block}
 

@@ -11,3 +11,4 @@ pub mod KeptLemmas
 pub mod LandingLemmas
 pub mod PlainLemmas
 pub mod ReplyLemmas
+pub mod StraightLemmas

@@ -33,3 +33,4 @@ pub mod Landing
 pub mod TypedState
 pub mod PlainSteps
 pub mod Operands
+pub mod Straight

@@ -11,11 +11,12 @@
 //! `Within`, `Contexts` and `Flat` are what the laws speak of.
 #![tactic(auto)]
 
-pub mod laws;
 mod blocks;
+pub mod laws;
 mod plain;
 mod questions;
 mod room;
 mod stacks;
+mod straight;
 
 pub use questions::{FloatReply, Growth, HostTarget};
