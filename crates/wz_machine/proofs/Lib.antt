@@ -5,10 +5,17 @@ pub mod MoveLemmas
 pub mod ContextLemmas
 pub mod FlatLemmas
 pub mod TypedLemmas
+pub mod PutLemmas
+pub mod GrowLemmas
 pub mod RoomLemmas
 pub mod StackLemmas
+pub mod CountLemmas
+pub mod StandingLemmas
 pub mod KeptLemmas
 pub mod LandingLemmas
+pub mod ListLemmas
+pub mod BranchLemmas
+pub mod StepLemmas
 pub mod PlainLemmas
 pub mod ReplyLemmas
 pub mod StraightLemmas

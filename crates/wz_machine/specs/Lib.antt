@@ -30,7 +30,15 @@ pub mod Stacks
 pub mod Kept
 pub mod Opening
 pub mod Landing
+pub mod Turns
 pub mod TypedState
+pub mod Callees
+pub mod Growths
+pub mod Refusals
+pub mod Standings
+pub mod Keeping
+pub mod Machines
+pub mod Waiting
 pub mod PlainSteps
 pub mod Operands
 pub mod Straight

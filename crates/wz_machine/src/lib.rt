@@ -11,12 +11,24 @@
 //! `Within`, `Contexts` and `Flat` are what the laws speak of.
 #![tactic(auto)]
 
+mod answers;
 mod blocks;
+mod branches;
+mod callee;
+mod counts;
+mod growing;
 pub mod laws;
+mod machine;
+mod operands;
 mod plain;
 mod questions;
 mod room;
 mod stacks;
+mod standing;
 mod straight;
+mod turn;
+mod waiting;
 
-pub use questions::{FloatReply, Growth, HostTarget};
+pub use answers::{EnterFault, GrowFault, HostFault, NotNow, Tick};
+pub use machine::Machine;
+pub use questions::{Ask, FloatReply, Growth, HostTarget};

@@ -54,12 +54,12 @@ pub(crate) fn put(values: &mut [Value], have: usize, more: &[Value])
 
 /// Moves values of the used ones down, over what stands there.
 #[inline]
-pub(crate) fn move_down(values: &mut [Value], to: usize, from: usize, count: usize)
+pub(crate) fn move_down(values: &mut Vec<Value>, to: usize, from: usize, count: usize)
     requires down { to ≤ from }
-    requires inside { from + count ≤ length values.old }
-    ensures moved { take (to + count) values.new ≡
-        take to values.old ++ take count (drop from values.old) }
-    ensures len { length values.new ≡ length values.old }
+    requires inside { from + count ≤ length values.old.items }
+    ensures moved { take (to + count) values.new.items ≡
+        take to values.old.items ++ take count (drop from values.old.items) }
+    ensures len { length values.new.items ≡ length values.old.items }
 {
     values.copy_within(from..from + count, to);
 }

@@ -1,0 +1,13 @@
+-- Sections 4.5.3.8 and 4.5.3.9 of the Core Specification: the size of a memory or a table that may grow by so much.
+use Rattle.std.specs.Prelude.{ℕ, Option, Some, None, if◌then◌else◌, length}
+use Rattle.wz_store.specs.State.{Table, Memory, pages_of}
+use Rattle.wz_store.specs.Growth.{may_extend, may_grow}
+
+-- none where there is no such memory, or where it may not
+abbrev pub growing_pages : Option Memory → ℕ → Option ℕ
+growing_pages None by = None
+growing_pages (Some memory) by = if may_grow (pages_of memory) memory.maximum by then Some (pages_of memory) else None
+
+abbrev pub growing_entries : Option Table → ℕ → Option ℕ
+growing_entries None by = None
+growing_entries (Some table) by = if may_extend (length table.entries) table.maximum by then Some (length table.entries) else None
