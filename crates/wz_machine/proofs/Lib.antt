@@ -19,3 +19,5 @@ pub mod StepLemmas
 pub mod PlainLemmas
 pub mod ReplyLemmas
 pub mod StraightLemmas
+pub mod SiteLemmas
+pub mod RunLemmas

@@ -42,3 +42,5 @@ pub mod Waiting
 pub mod PlainSteps
 pub mod Operands
 pub mod Straight
+pub mod Advance
+pub mod Running

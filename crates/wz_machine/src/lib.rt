@@ -23,6 +23,7 @@ mod operands;
 mod plain;
 mod questions;
 mod room;
+mod run;
 mod stacks;
 mod standing;
 mod straight;
