@@ -32,7 +32,7 @@ le-true m n a b le = grind (arith, nat_tests)
 le-false : (m n : ℕ) (a b : Answer) → n < m → (if nat_le m n then a else b) ≡ b
 le-false m n a b lt = grind (arith, nat_tests)
 
-own-length : (s : StackParts) (have : ℕ) → have ≤ length s.values → length (own_of s have) ≡ have - s.top.height
+pub own-length : (s : StackParts) (have : ℕ) → have ≤ length s.values → length (own_of s have) ≡ have - s.top.height
 own-length s have within =
     length-reverse (drop s.top.height (take have s.values)) ∙ length-drop s.top.height (take have s.values) ∙ ap (λ n. n - s.top.height) (length-take-le have s.values within)
 

@@ -9,7 +9,7 @@ use Rattle.wz_machine.specs.declared.stacks.Opened.{Opened}
 use Rattle.wz_machine.specs.declared.stacks.Stacks.TheInside.{Inside}
 use Rattle.wz_machine.specs.Stacks.{EntryKind, CallEntry, BlockEntry, LoopEntry, Entry, StackParts, HasRoom, IsBlockIn, IsCallIn, IsKindIn, IsOutermost, AreStacked, IsStacked}
 use Rattle.wz_machine.specs.Kept.{entry_of, stack_parts, AreKept}
-use Rattle.wz_machine.specs.Opening.{IsBlockKind, block_in, with_block}
+use Rattle.wz_machine.specs.Opening.{IsBlockKind, block_in, with_block, stepped}
 use Rattle.wz_machine.specs.Landing.{IsLeft, IsAgain}
 use Rattle.wz_machine.proofs.ListLemmas.{drop-back}
 
@@ -94,6 +94,17 @@ with_block-stacked s rest kind code have params arity block within own stacked =
       few = stacked.few;
       small = stacked.small;
     }
+
+-- ---- an instruction is left behind
+
+pub stepped-stacked : (s : StackParts) (rest : List Instr) (have : ℕ) → s.top.height ≤ have → have ≤ length s.values → IsStacked s → IsStacked (stepped s rest have)
+stepped-stacked s rest have own within stacked = record {
+  within = rw (length-take-le have s.values within) own;
+  room = record { base = stacked.room.base; locals = stacked.room.locals; height = stacked.room.height; counted = stacked.room.counted };
+  stacked = stacked-moved s.top rest s.outer stacked.stacked;
+  few = stacked.few;
+  small = stacked.small;
+}
 
 -- ---- entries that are left
 

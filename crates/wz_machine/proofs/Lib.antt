@@ -18,6 +18,11 @@ pub mod BranchLemmas
 pub mod StepLemmas
 pub mod PlainLemmas
 pub mod ReplyLemmas
+pub mod EntryLemmas
+pub mod ControlLemmas
+pub mod TickLemmas
+pub mod CallLemmas
+pub mod AskLemmas
 pub mod StraightLemmas
 pub mod SiteLemmas
 pub mod RunLemmas

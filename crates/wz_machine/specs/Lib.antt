@@ -31,6 +31,7 @@ pub mod Kept
 pub mod Opening
 pub mod Landing
 pub mod Turns
+pub mod Ticks
 pub mod TypedState
 pub mod Callees
 pub mod Growths
@@ -41,6 +42,8 @@ pub mod Machines
 pub mod Waiting
 pub mod PlainSteps
 pub mod Operands
+pub mod Asks
+pub mod Calling
 pub mod Straight
 pub mod Advance
 pub mod Running

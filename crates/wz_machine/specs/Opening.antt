@@ -33,3 +33,9 @@ with_block s rest kind code have params arity = record {
   outer = record s.top { rest = rest } ∷ s.outer;
   values = take have s.values;
 }
+
+-- ---- an instruction is left behind
+
+-- this is left of the innermost block, and so many values stay
+abbrev pub stepped : StackParts → List Instr → ℕ → StackParts
+stepped s rest have = record { top = record s.top { rest = rest }; outer = s.outer; values = take have s.values }

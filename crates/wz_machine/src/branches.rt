@@ -157,7 +157,9 @@ impl<'m> Stacks<'m> {
     /// How many values there are.
     #[inline]
     pub fn used(&self) -> usize
-        ensures { result ≡ length self.now.values }
+        ensures count { result ≡ length self.now.values }
+        ensures own { self.now.top.height ≤ result }
+        ensures stacked { IsStacked self.now }
     {
         self.have
     }

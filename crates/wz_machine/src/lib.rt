@@ -12,9 +12,12 @@
 #![tactic(auto)]
 
 mod answers;
+mod asking;
 mod blocks;
 mod branches;
 mod callee;
+mod control;
+mod calls;
 mod counts;
 mod growing;
 pub mod laws;
