@@ -23,3 +23,6 @@ pub mod ControlLemmas
 pub mod TickLemmas
 pub mod CallLemmas
 pub mod AskLemmas
+pub mod StraightLemmas
+pub mod SiteLemmas
+pub mod RunLemmas

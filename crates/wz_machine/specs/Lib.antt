@@ -45,3 +45,6 @@ pub mod PlainSteps
 pub mod Operands
 pub mod Asks
 pub mod Calling
+pub mod Straight
+pub mod Advance
+pub mod Running

@@ -1,6 +1,5 @@
 -- How the machine's stacks change where a block or a call is entered or left (sections 4.4.8 to 4.4.10 of the Core Specification).
-use Rattle.std.specs.Prelude.{◌≡◌, ℕ, suc, ◌+◌, ◌-◌, List, [], ◌∷◌, ◌++◌, length, take, drop}
-use Rattle.wz_types.specs.declared.value.Value.{Value}
+use Rattle.std.specs.Prelude.{ℕ, suc, ◌-◌, List, ◌∷◌, take}
 use Rattle.wz_code.specs.declared.instr.Instr.{Instr}
 use Rattle.wz_machine.specs.Stacks.{EntryKind, CallEntry, BlockEntry, LoopEntry, Entry, StackParts}
 

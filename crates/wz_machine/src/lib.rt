@@ -26,10 +26,12 @@ mod operands;
 mod plain;
 mod questions;
 mod room;
+mod run;
 mod stacks;
 mod standing;
 mod stride;
 mod tick;
+mod straight;
 mod turn;
 mod waiting;
 
