@@ -1,5 +1,5 @@
 -- What a tick of a machine answers and leaves, beside `tick_reply` of `Replies`.
-use Rattle.std.specs.Prelude.{◌≡◌, ℕ, List, [], ◌∷◌, Option, None}
+use Rattle.std.specs.Prelude.{◌≡◌, ℕ, List, [], ◌∷◌, Option, None, Bool, true, false}
 use Rattle.wz_types.specs.declared.value.Value.{Value}
 use Rattle.wz_code.specs.BodyParts.{BodyParts}
 use Rattle.wz_store.specs.Made.{StoreState}
@@ -60,3 +60,27 @@ asking_with stacks question count = record { work = StacksWork stacks; question 
 
 abbrev pub running : StackParts → StandingParts
 running stacks = asking_with stacks None 0
+
+-- ---- of the stack of terms
+
+abbrev pub is_over : Tick → Bool
+is_over tick.Idle = false
+is_over tick.Went = false
+is_over (tick.Done values) = true
+is_over (tick.Trapped kind) = true
+is_over (tick.Asked ask) = false
+is_over tick.Stuck = false
+
+-- the topmost term was ticked, and stays where it is even if it is over
+pub record TopTicked (bodies : List BodyParts) (s : StoreState) (old : List Standing) (answer : Tick) (new : List Standing) (t : StoreState) : Type 0 where
+  pub before : StandingParts
+  pub after : StandingParts
+  pub below : List Standing
+  pub was : old ≡ standing_of before ∷ below
+  pub is : new ≡ standing_of after ∷ below
+  pub ticked : StandingTicked bodies s before answer after t
+
+pub record StackTicked (bodies : List BodyParts) (s : StoreState) (old : List Standing) (answer : Tick) (new : List Standing) (t : StoreState) : Type 0 where
+  pub event : event_of answer ≡ tick_event (state_of bodies s) old
+  pub store : t ≡ applied (tick_reply (state_of bodies s) old).change s
+  pub stack : new ≡ (tick_reply (state_of bodies s) old).stack
