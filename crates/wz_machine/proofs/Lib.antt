@@ -18,3 +18,4 @@ pub mod ReplyLemmas
 pub mod ListLemmas
 pub mod CallLemmas
 pub mod AskLemmas
+pub mod GrowAskLemmas
