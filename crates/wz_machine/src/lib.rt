@@ -13,7 +13,30 @@
 //! `TypedLaws` that it stays so and is never stuck.
 #![tactic(auto)]
 
+mod answers;
+mod asking;
+mod blocks;
+mod branches;
+mod callee;
+mod control;
+mod calls;
+mod counts;
+mod growing;
 pub mod laws;
+mod machine;
+mod operands;
+mod plain;
 mod questions;
+mod room;
+mod run;
+mod stacks;
+mod standing;
+mod stride;
+mod tick;
+mod straight;
+mod turn;
+mod waiting;
 
-pub use questions::{FloatReply, Growth, HostTarget};
+pub use answers::{EnterFault, GrowFault, HostFault, NotNow, Tick};
+pub use machine::Machine;
+pub use questions::{Ask, FloatReply, Growth, HostTarget};
