@@ -26,3 +26,4 @@ pub mod AskLemmas
 pub mod StraightLemmas
 pub mod SiteLemmas
 pub mod RunLemmas
+pub mod TurnLemmas

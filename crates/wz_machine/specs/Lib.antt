@@ -47,3 +47,4 @@ pub mod Calling
 pub mod Straight
 pub mod Advance
 pub mod Running
+pub mod PlainTurns
