@@ -53,3 +53,4 @@ pub mod Calling
 pub mod Straight
 pub mod Advance
 pub mod Running
+pub mod PlainTurns
