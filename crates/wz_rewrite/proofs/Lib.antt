@@ -12,3 +12,4 @@ pub mod LookupLemmas
 pub mod OrderLemmas
 pub mod ContentLemmas
 pub mod SpellLaws
+pub mod TestLemmas
