@@ -1,5 +1,5 @@
 -- Small states, for tests.
-use Rattle.std.proofs.Common.{◌≡◌, ℕ, ◌≤◌, List, [], ◌∷◌, length, slice_get, true, false, leb, Some, None, ap, inl, inr, arith}
+use Rattle.std.proofs.Common.{◌≡◌, ℕ, ◌≤◌, List, [], ◌∷◌, length, slice_get, leb, Some, None, ap, inl, inr, arith}
 use Rattle.std.specs.Bool.{OnTrue}
 use Rattle.std.specs.Option.{option_map}
 use Rattle.std.proofs.lemmas.Bool.{cases_Bool, leb-true}
