@@ -22,3 +22,4 @@ pub mod SlotLemmas
 pub mod BodyLemmas
 pub mod ContextLemmas
 pub mod StartLemmas
+pub mod StateLemmas
