@@ -4,435 +4,175 @@ use crate::{
     Bulk, data_drop, elem_drop, memory_copy, memory_fill, memory_init, table_copy, table_fill,
     table_get, table_grow, table_init, table_set, table_size,
 };
-use std::alloc::Global;
+use std::alloc::{AllocError, Global};
 use std::process::Abort;
 use std::test::Fail;
 use wz_linear::{Linear, PlainMemory};
 use wz_store::Store;
 use wz_types::{Limits, MemType, RefKind, Reference, TableType, TrapKind};
 
-const DATA: &[u8] = &[1, 2, 3, 4, 5, 6, 7, 8];
+/// A memory instruction. What it names comes first, then to where, from where, and how many.
+#[derive(Clone, Copy)]
+enum OnMemory {
+    /// With bytes of 9.
+    Fill(u32, u32, u32),
+    Copy(u32, u32, u32, u32, u32),
+    Init(u32, u32, u32, u32, u32),
+    DropData(u32),
+}
+
+/// A table instruction, in the same order; what is written stands before how many.
+#[derive(Clone, Copy)]
+enum OnTable {
+    Set(u32, u32, Reference),
+    Fill(u32, u32, Reference, u32),
+    Copy(u32, u32, u32, u32, u32),
+    Init(u32, u32, u32, u32, u32),
+    DropElements(u32),
+}
+
+const DID: Bulk = Bulk::Did;
+
+const STUCK: Bulk = Bulk::Stuck;
+
+/// Past the end of a memory or a data segment.
+const NO_BYTE: Bulk = Bulk::Trap(TrapKind::MemoryBounds);
+
+/// Past the end of a table or an element segment.
+const NO_ENTRY: Bulk = Bulk::Trap(TrapKind::TableBounds);
 
 const NULL: Reference = Reference::Null(RefKind::Func);
 
 const OBJECT: Reference = Reference::Null(RefKind::Extern);
 
-const NO_MEMORY_THERE: Bulk = Bulk::Trap(TrapKind::MemoryBounds);
+const SEVENTH: Reference = Reference::Fn(7);
 
-const NO_ENTRY_THERE: Bulk = Bulk::Trap(TrapKind::TableBounds);
+/// The data segments: the first one is there, the second one is dropped.
+const DATA: &[u8] = &[1, 2, 3, 4, 5, 6, 7, 8];
 
-/// Into which memory, from which, to, from, how many; the answer, and what the first then begins
-/// with.
-const MEMORY_COPIES: [(u32, u32, u32, u32, u32, Bulk, u64, &str); 13] = [
+/// What memory 0 begins with before an instruction, the lowest byte first; memory 1 has zeros.
+const BYTES: u64 = 0x0807_0605_0403_0201;
+
+/// The numbers of the functions in the tables of functions before an instruction, 0 for null.
+const FIRST: [u32; 4] = [1, 2, 3, 4];
+
+const SECOND: [u32; 4] = [0; 4];
+
+/// Instructions on two memories of a page, the answer, and what the memories then begin with.
+const MEMORY_ROWS: [(OnMemory, Bulk, u64, u64); 32] = [
+    // overlapping, upwards and downwards
+    (OnMemory::Copy(0, 0, 2, 0, 6), DID, 0x0605_0403_0201_0201, 0),
+    (OnMemory::Copy(0, 0, 0, 2, 6), DID, 0x0807_0807_0605_0403, 0),
+    // nothing at the end, and past it
+    (OnMemory::Copy(0, 0, 65_536, 0, 0), DID, BYTES, 0),
+    (OnMemory::Copy(0, 0, 0, 65_536, 0), DID, BYTES, 0),
+    (OnMemory::Copy(0, 0, 65_537, 0, 0), NO_BYTE, BYTES, 0),
+    (OnMemory::Copy(0, 0, 0, 65_537, 0), NO_BYTE, BYTES, 0),
+    // one too many, and a sum that doesn't wrap
+    (OnMemory::Copy(0, 0, 65_535, 0, 2), NO_BYTE, BYTES, 0),
     (
+        OnMemory::Copy(0, 0, 0, u32::MAX, u32::MAX),
+        NO_BYTE,
+        BYTES,
         0,
-        0,
-        2,
-        0,
-        6,
-        Bulk::Did,
-        0x0605_0403_0201_0201,
-        "upwards, overlapping",
     ),
-    (
-        0,
-        0,
-        0,
-        2,
-        6,
-        Bulk::Did,
-        0x0807_0807_0605_0403,
-        "downwards, overlapping",
-    ),
-    (
-        0,
-        0,
-        65_536,
-        0,
-        0,
-        Bulk::Did,
-        0x0807_0605_0403_0201,
-        "nothing to the end",
-    ),
-    (
-        0,
-        0,
-        0,
-        65_536,
-        0,
-        Bulk::Did,
-        0x0807_0605_0403_0201,
-        "nothing from the end",
-    ),
-    (
-        0,
-        0,
-        65_537,
-        0,
-        0,
-        NO_MEMORY_THERE,
-        0x0807_0605_0403_0201,
-        "nothing past the end",
-    ),
-    (
-        0,
-        0,
-        0,
-        65_537,
-        0,
-        NO_MEMORY_THERE,
-        0x0807_0605_0403_0201,
-        "nothing from past it",
-    ),
-    (
-        0,
-        0,
-        65_535,
-        0,
-        2,
-        NO_MEMORY_THERE,
-        0x0807_0605_0403_0201,
-        "one too many",
-    ),
-    (
-        0,
-        0,
-        0,
-        u32::MAX,
-        u32::MAX,
-        NO_MEMORY_THERE,
-        0x0807_0605_0403_0201,
-        "the sum doesn't wrap",
-    ),
-    (
-        1,
-        0,
-        0,
-        0,
-        8,
-        Bulk::Did,
-        0x0807_0605_0403_0201,
-        "into another memory",
-    ),
-    (
-        1,
-        0,
-        65_536,
-        65_536,
-        0,
-        Bulk::Did,
-        0,
-        "nothing into another",
-    ),
-    (
-        1,
-        0,
-        0,
-        65_529,
-        8,
-        NO_MEMORY_THERE,
-        0,
-        "one too many from another",
-    ),
-    (
-        1,
-        0,
-        65_529,
-        0,
-        8,
-        NO_MEMORY_THERE,
-        0,
-        "one too many into another",
-    ),
-    (
-        0,
-        2,
-        0,
-        0,
-        0,
-        Bulk::Stuck,
-        0x0807_0605_0403_0201,
-        "no such source",
-    ),
+    // into another memory: all, nothing, one too many on either side
+    (OnMemory::Copy(1, 0, 0, 0, 8), DID, BYTES, BYTES),
+    (OnMemory::Copy(1, 0, 65_536, 65_536, 0), DID, BYTES, 0),
+    (OnMemory::Copy(1, 0, 0, 65_529, 8), NO_BYTE, BYTES, 0),
+    (OnMemory::Copy(1, 0, 65_529, 0, 8), NO_BYTE, BYTES, 0),
+    // no such source, no such target, neither
+    (OnMemory::Copy(0, 2, 0, 0, 0), STUCK, BYTES, 0),
+    (OnMemory::Copy(2, 0, 0, 0, 0), STUCK, BYTES, 0),
+    (OnMemory::Copy(2, 2, 0, 0, 0), STUCK, BYTES, 0),
+    // within, nothing at the end and past it, one too many, no such memory
+    (OnMemory::Fill(0, 1, 2), DID, 0x0807_0605_0409_0901, 0),
+    (OnMemory::Fill(0, 65_536, 0), DID, BYTES, 0),
+    (OnMemory::Fill(0, 65_537, 0), NO_BYTE, BYTES, 0),
+    (OnMemory::Fill(0, 0, 65_537), NO_BYTE, BYTES, 0),
+    (OnMemory::Fill(2, 0, 0), STUCK, BYTES, 0),
+    // the end of a segment; nothing from its end, from past it, and to the end of a memory
+    (OnMemory::Init(0, 1, 0, 6, 2), DID, BYTES, 0x0807),
+    (OnMemory::Init(0, 1, 0, 8, 0), DID, BYTES, 0),
+    (OnMemory::Init(0, 1, 0, 9, 0), NO_BYTE, BYTES, 0),
+    (OnMemory::Init(0, 1, 65_536, 8, 0), DID, BYTES, 0),
+    (OnMemory::Init(0, 1, 65_529, 0, 8), NO_BYTE, BYTES, 0),
+    // nothing and one of a dropped segment
+    (OnMemory::Init(1, 1, 0, 0, 0), DID, BYTES, 0),
+    (OnMemory::Init(1, 1, 0, 0, 1), NO_BYTE, BYTES, 0),
+    // no such memory and no such segment, before bounds
+    (OnMemory::Init(0, 2, 0, 9, 9), STUCK, BYTES, 0),
+    (OnMemory::Init(2, 1, 0, 9, 9), STUCK, BYTES, 0),
+    // a segment, one that was dropped before, and one that isn't there
+    (OnMemory::DropData(0), DID, BYTES, 0),
+    (OnMemory::DropData(1), DID, BYTES, 0),
+    (OnMemory::DropData(2), STUCK, BYTES, 0),
 ];
 
-/// Which memory, to, how many bytes of 9; the answer, and what memory 0 then begins with.
-const MEMORY_FILLS: [(u32, u32, u32, Bulk, u64, &str); 5] = [
-    (0, 1, 2, Bulk::Did, 0x0807_0605_0409_0901, "within"),
-    (
-        0,
-        65_536,
-        0,
-        Bulk::Did,
-        0x0807_0605_0403_0201,
-        "nothing at the end",
-    ),
-    (
-        0,
-        65_537,
-        0,
-        NO_MEMORY_THERE,
-        0x0807_0605_0403_0201,
-        "nothing past the end",
-    ),
-    (
-        0,
-        0,
-        65_537,
-        NO_MEMORY_THERE,
-        0x0807_0605_0403_0201,
-        "one too many",
-    ),
-    (
-        2,
-        0,
-        0,
-        Bulk::Stuck,
-        0x0807_0605_0403_0201,
-        "no such memory",
-    ),
+/// Instructions on two tables of four functions and one of an object, the answer, and the functions
+/// that then stand in the first two.
+const TABLE_ROWS: [(OnTable, Bulk, [u32; 4], [u32; 4]); 34] = [
+    // overlapping, upwards and downwards, and into another table
+    (OnTable::Copy(0, 0, 1, 0, 3), DID, [1, 1, 2, 3], SECOND),
+    (OnTable::Copy(0, 0, 0, 1, 3), DID, [2, 3, 4, 4], SECOND),
+    (OnTable::Copy(1, 0, 1, 0, 2), DID, FIRST, [0, 1, 2, 0]),
+    // nothing at the end, to past it and from past it, one too many
+    (OnTable::Copy(0, 0, 4, 4, 0), DID, FIRST, SECOND),
+    (OnTable::Copy(0, 0, 5, 0, 0), NO_ENTRY, FIRST, SECOND),
+    (OnTable::Copy(1, 0, 0, 5, 0), NO_ENTRY, FIRST, SECOND),
+    (OnTable::Copy(1, 0, 3, 0, 2), NO_ENTRY, FIRST, SECOND),
+    // of another kind, no such source and no such target, before bounds
+    (OnTable::Copy(2, 0, 0, 9, 9), STUCK, FIRST, SECOND),
+    (OnTable::Copy(0, 3, 0, 9, 9), STUCK, FIRST, SECOND),
+    (OnTable::Copy(3, 0, 0, 9, 9), STUCK, FIRST, SECOND),
+    // within, nothing at the end and past it, one too many
+    (OnTable::Fill(0, 1, SEVENTH, 2), DID, [1, 7, 7, 4], SECOND),
+    (OnTable::Fill(0, 4, NULL, 0), DID, FIRST, SECOND),
+    (OnTable::Fill(0, 5, NULL, 0), NO_ENTRY, FIRST, SECOND),
+    (OnTable::Fill(0, 3, NULL, 2), NO_ENTRY, FIRST, SECOND),
+    // of another kind, before bounds; a table of objects with each kind; no such table
+    (OnTable::Fill(0, 9, OBJECT, 9), STUCK, FIRST, SECOND),
+    (OnTable::Fill(2, 0, OBJECT, 1), DID, FIRST, SECOND),
+    (OnTable::Fill(2, 0, NULL, 1), STUCK, FIRST, SECOND),
+    (OnTable::Fill(3, 0, NULL, 0), STUCK, FIRST, SECOND),
+    // within, nothing at the end, from past it, one too many
+    (OnTable::Init(0, 1, 1, 2, 2), DID, FIRST, [0, 3, 4, 0]),
+    (OnTable::Init(0, 1, 4, 4, 0), DID, FIRST, SECOND),
+    (OnTable::Init(0, 1, 0, 5, 0), NO_ENTRY, FIRST, SECOND),
+    (OnTable::Init(0, 1, 3, 0, 2), NO_ENTRY, FIRST, SECOND),
+    // nothing and one of a dropped segment
+    (OnTable::Init(1, 1, 0, 0, 0), DID, FIRST, SECOND),
+    (OnTable::Init(1, 1, 0, 0, 1), NO_ENTRY, FIRST, SECOND),
+    // of another kind, no such segment and no such table, before bounds
+    (OnTable::Init(0, 2, 0, 9, 9), STUCK, FIRST, SECOND),
+    (OnTable::Init(2, 1, 0, 9, 9), STUCK, FIRST, SECOND),
+    (OnTable::Init(0, 3, 0, 9, 9), STUCK, FIRST, SECOND),
+    // a segment, one that was dropped before, and one that isn't there
+    (OnTable::DropElements(0), DID, FIRST, SECOND),
+    (OnTable::DropElements(1), DID, FIRST, SECOND),
+    (OnTable::DropElements(2), STUCK, FIRST, SECOND),
+    // one entry: the last one, one past it, of another kind before bounds, no such table
+    (OnTable::Set(0, 3, NULL), DID, [1, 2, 3, 0], SECOND),
+    (OnTable::Set(0, 4, NULL), NO_ENTRY, FIRST, SECOND),
+    (OnTable::Set(0, 9, OBJECT), STUCK, FIRST, SECOND),
+    (OnTable::Set(3, 0, NULL), STUCK, FIRST, SECOND),
 ];
 
-/// Which segment, whether it was dropped, which memory, to, from, how many; the answer.
-const MEMORY_INITS: [(u32, bool, u32, u32, u32, u32, Bulk, &str); 8] = [
-    (0, false, 1, 0, 8, 0, Bulk::Did, "nothing from the end"),
-    (
-        0,
-        false,
-        1,
-        0,
-        9,
-        0,
-        NO_MEMORY_THERE,
-        "nothing from past the end",
-    ),
-    (0, false, 1, 65_536, 8, 0, Bulk::Did, "nothing to the end"),
-    (0, false, 1, 65_529, 0, 8, NO_MEMORY_THERE, "one too many"),
-    (0, true, 1, 0, 0, 0, Bulk::Did, "nothing of a dropped one"),
-    (0, true, 1, 0, 0, 1, NO_MEMORY_THERE, "one of a dropped one"),
-    (0, false, 2, 0, 9, 9, Bulk::Stuck, "no such memory"),
-    (1, false, 1, 0, 9, 9, Bulk::Stuck, "no such segment"),
+/// What the entry at a place of a table is.
+const ENTRIES: [(u32, u32, Result<Reference, Bulk>); 4] = [
+    (0, 3, Ok(Reference::Fn(4))),
+    (2, 0, Ok(OBJECT)),
+    (0, 4, Err(NO_ENTRY)),
+    (3, 9, Err(STUCK)),
 ];
 
-/// Into which table, from which, to, from, how many; the answer, and what table 0 and 1 then hold.
-const TABLE_COPIES: [(u32, u32, u32, u32, u32, Bulk, [u32; 4], [u32; 4], &str); 10] = [
-    (
-        0,
-        0,
-        1,
-        0,
-        3,
-        Bulk::Did,
-        [1, 1, 2, 3],
-        [0; 4],
-        "upwards, overlapping",
-    ),
-    (
-        0,
-        0,
-        0,
-        1,
-        3,
-        Bulk::Did,
-        [2, 3, 4, 4],
-        [0; 4],
-        "downwards, overlapping",
-    ),
-    (
-        1,
-        0,
-        1,
-        0,
-        2,
-        Bulk::Did,
-        [1, 2, 3, 4],
-        [0, 1, 2, 0],
-        "into another table",
-    ),
-    (
-        0,
-        0,
-        4,
-        4,
-        0,
-        Bulk::Did,
-        [1, 2, 3, 4],
-        [0; 4],
-        "nothing at the end",
-    ),
-    (
-        0,
-        0,
-        5,
-        0,
-        0,
-        NO_ENTRY_THERE,
-        [1, 2, 3, 4],
-        [0; 4],
-        "nothing past the end",
-    ),
-    (
-        1,
-        0,
-        0,
-        5,
-        0,
-        NO_ENTRY_THERE,
-        [1, 2, 3, 4],
-        [0; 4],
-        "nothing from past the end",
-    ),
-    (
-        1,
-        0,
-        3,
-        0,
-        2,
-        NO_ENTRY_THERE,
-        [1, 2, 3, 4],
-        [0; 4],
-        "one too many",
-    ),
-    (
-        2,
-        0,
-        0,
-        9,
-        9,
-        Bulk::Stuck,
-        [1, 2, 3, 4],
-        [0; 4],
-        "of another kind, before bounds",
-    ),
-    (
-        0,
-        3,
-        0,
-        9,
-        9,
-        Bulk::Stuck,
-        [1, 2, 3, 4],
-        [0; 4],
-        "no such source",
-    ),
-    (
-        3,
-        0,
-        0,
-        9,
-        9,
-        Bulk::Stuck,
-        [1, 2, 3, 4],
-        [0; 4],
-        "no such target",
-    ),
-];
-
-/// Which table, to, with what, how many; the answer, and what table 0 then holds.
-const TABLE_FILLS: [(u32, u32, Reference, u32, Bulk, [u32; 4], &str); 8] = [
-    (0, 1, Reference::Fn(7), 2, Bulk::Did, [1, 7, 7, 4], "within"),
-    (0, 4, NULL, 0, Bulk::Did, [1, 2, 3, 4], "nothing at the end"),
-    (
-        0,
-        5,
-        NULL,
-        0,
-        NO_ENTRY_THERE,
-        [1, 2, 3, 4],
-        "nothing past the end",
-    ),
-    (0, 3, NULL, 2, NO_ENTRY_THERE, [1, 2, 3, 4], "one too many"),
-    (
-        0,
-        9,
-        OBJECT,
-        9,
-        Bulk::Stuck,
-        [1, 2, 3, 4],
-        "of another kind, before bounds",
-    ),
-    (
-        2,
-        0,
-        OBJECT,
-        1,
-        Bulk::Did,
-        [1, 2, 3, 4],
-        "a table of objects",
-    ),
-    (
-        2,
-        0,
-        NULL,
-        1,
-        Bulk::Stuck,
-        [1, 2, 3, 4],
-        "a function into a table of objects",
-    ),
-    (3, 0, NULL, 0, Bulk::Stuck, [1, 2, 3, 4], "no such table"),
-];
-
-/// Which segment, whether it was dropped, which table, to, from, how many; the answer, and table 1.
-const TABLE_INITS: [(u32, bool, u32, u32, u32, u32, Bulk, [u32; 4], &str); 9] = [
-    (0, false, 1, 1, 2, 2, Bulk::Did, [0, 3, 4, 0], "within"),
-    (
-        0,
-        false,
-        1,
-        4,
-        4,
-        0,
-        Bulk::Did,
-        [0; 4],
-        "nothing at the end",
-    ),
-    (
-        0,
-        false,
-        1,
-        0,
-        5,
-        0,
-        NO_ENTRY_THERE,
-        [0; 4],
-        "nothing from past the end",
-    ),
-    (0, false, 1, 3, 0, 2, NO_ENTRY_THERE, [0; 4], "one too many"),
-    (
-        0,
-        true,
-        1,
-        0,
-        0,
-        0,
-        Bulk::Did,
-        [0; 4],
-        "nothing of a dropped one",
-    ),
-    (
-        0,
-        true,
-        1,
-        0,
-        0,
-        1,
-        NO_ENTRY_THERE,
-        [0; 4],
-        "one of a dropped one",
-    ),
-    (
-        0,
-        false,
-        2,
-        0,
-        9,
-        9,
-        Bulk::Stuck,
-        [0; 4],
-        "of another kind, before bounds",
-    ),
-    (1, false, 1, 0, 9, 9, Bulk::Stuck, [0; 4], "no such segment"),
-    (0, false, 3, 0, 9, 9, Bulk::Stuck, [0; 4], "no such table"),
+/// By how many a table grows and with what, the answer, and how many entries it then has.
+const GROWTHS: [(u32, u32, Reference, Bulk, Option<u32>); 5] = [
+    (2, 0, OBJECT, DID, Some(1)),
+    (2, 2, NULL, STUCK, Some(1)),
+    (2, 2, OBJECT, DID, Some(3)),
+    (1, 1, NULL, DID, Some(5)),
+    (3, 0, NULL, STUCK, None),
 ];
 
 /// Four functions, or one object.
@@ -441,156 +181,128 @@ fn table_of(kind: RefKind) -> TableType {
         RefKind::Func => 4,
         RefKind::Extern => 1,
     };
-    TableType {
-        kind,
-        limits: Limits { min, max: None },
-    }
+    let limits = Limits { min, max: None };
+    TableType { kind, limits }
 }
 
-/// Two memories of a page; two tables of four functions and one of an object; a segment of each.
-fn instance<'m>(rt: &impl Abort, alloc: Global) -> Result<Store<'m, PlainMemory>, Fail> {
-    let page = MemType {
-        limits: Limits { min: 1, max: None },
-    };
-    let mut store = Store::new(alloc, &[]);
-    store.add_memory(page)?;
-    assert!(rt; store.memory_count() < 9);
-    store.add_memory(page)?;
-    for kind in [RefKind::Func, RefKind::Func, RefKind::Extern] {
-        assert!(rt; store.table_count() < 9);
-        store.add_table(table_of(kind))?;
-    }
-    let items = [
-        Reference::Fn(1),
-        Reference::Fn(2),
-        Reference::Fn(3),
-        Reference::Fn(4),
-    ];
+/// Adds a segment of functions 1 to 4, and one of data.
+fn add_segments(
+    rt: &impl Abort,
+    alloc: Global,
+    store: &mut Store<'_, PlainMemory>,
+) -> Result<(), Fail> {
+    let items = [1, 2, 3, 4].map(Reference::Fn);
     assert!(rt; store.element_count() < 9);
     store.add_element(RefKind::Func, items.to_vec(alloc)?)?;
     assert!(rt; store.segment_count() < 9);
     store.add_data(DATA)?;
-    memory_init(&mut store, 0, 0, 0, 0, 8)?;
-    table_init(&mut store, 0, 0, 0, 0, 4);
+    Ok(())
+}
+
+/// Adds two tables of functions and one of an object.
+fn add_tables(rt: &impl Abort, store: &mut Store<'_, PlainMemory>) -> Result<(), Fail> {
+    for kind in [RefKind::Func, RefKind::Func, RefKind::Extern] {
+        assert!(rt; store.table_count() < 9);
+        store.add_table(table_of(kind))?;
+    }
+    Ok(())
+}
+
+/// Adds a memory of a page, and a segment of each kind.
+fn add_memory(
+    rt: &impl Abort,
+    alloc: Global,
+    store: &mut Store<'_, PlainMemory>,
+) -> Result<(), Fail> {
+    let limits = Limits { min: 1, max: None };
+    assert!(rt; store.memory_count() < 9);
+    store.add_memory(MemType { limits })?;
+    add_segments(rt, alloc, store)
+}
+
+/// Copies the first segments into the first memory and table, and drops the second ones.
+fn fill_and_drop(store: &mut Store<'_, PlainMemory>) -> Result<(), AllocError> {
+    memory_init(store, 0, 0, 0, 0, 8)?;
+    table_init(store, 0, 0, 0, 0, 4);
+    data_drop(store, 1);
+    elem_drop(store, 1);
+    Ok(())
+}
+
+/// Two memories of a page, two tables of functions and one of an object, and two segments of each
+/// kind, of which the second ones are dropped.
+fn instance<'m>(rt: &impl Abort, alloc: Global) -> Result<Store<'m, PlainMemory>, Fail> {
+    let mut store = Store::new(alloc, &[]);
+    add_tables(rt, &mut store)?;
+    add_memory(rt, alloc, &mut store)?;
+    add_memory(rt, alloc, &mut store)?;
+    fill_and_drop(&mut store)?;
     Ok(store)
+}
+
+fn on_memory(store: &mut Store<'_, PlainMemory>, call: OnMemory) -> Result<Bulk, AllocError> {
+    match call {
+        OnMemory::Fill(memory, to, len) => memory_fill(store, memory, to, 9, len),
+        OnMemory::Copy(target, source, to, from, len) => {
+            memory_copy(store, target, source, to, from, len)
+        }
+        OnMemory::Init(segment, memory, to, from, len) => {
+            memory_init(store, segment, memory, to, from, len)
+        }
+        OnMemory::DropData(segment) => Ok(data_drop(store, segment)),
+    }
+}
+
+fn on_table(store: &mut Store<'_, PlainMemory>, call: OnTable) -> Bulk {
+    match call {
+        OnTable::Set(table, at, value) => table_set(store, table, at, value),
+        OnTable::Fill(table, to, value, len) => table_fill(store, table, to, value, len),
+        OnTable::Copy(target, source, to, from, len) => {
+            table_copy(store, target, source, to, from, len)
+        }
+        OnTable::Init(segment, table, to, from, len) => {
+            table_init(store, segment, table, to, from, len)
+        }
+        OnTable::DropElements(segment) => elem_drop(store, segment),
+    }
 }
 
 /// The first eight bytes of a memory, the lowest first.
 fn begins_with(store: &Store<'_, PlainMemory>, memory: u32) -> Option<u64> {
-    match store.memory(memory) {
-        Some(memory) => memory.load(0, 8),
-        None => None,
-    }
+    store.memory(memory)?.load(0, 8)
 }
 
-/// The numbers of the four functions of a table; 0 for null.
-fn functions(store: &Store<'_, PlainMemory>, table: u32) -> [u32; 4] {
-    let mut numbers = [9; 4];
-    for at in 0..4 {
-        match table_get(store, table, at) {
-            Ok(Reference::Fn(number)) => numbers[at as usize] = number,
-            Ok(_) => numbers[at as usize] = 0,
-            Err(_) => {}
+/// Whether just these functions stand in a table; 0 for null.
+fn has_functions(store: &Store<'_, PlainMemory>, table: u32, numbers: [u32; 4]) -> bool {
+    let entry = |number: u32| {
+        if number == 0 {
+            NULL
+        } else {
+            Reference::Fn(number)
         }
-    }
-    numbers
+    };
+    store.table(table) == Some(numbers.map(entry).as_slice())
 }
 
 #[test]
-fn memories_are_copied(rt: HostRuntime) -> Result<(), Fail> {
-    for (into, out, to, from, len, answer, bytes, row) in MEMORY_COPIES {
+fn memory_instructions(rt: HostRuntime) -> Result<(), Fail> {
+    for (row, (call, answer, first, second)) in MEMORY_ROWS.iter().enumerate() {
         let mut store = instance(&rt, rt.alloc())?;
-        assert_eq!(rt;
-            memory_copy(&mut store, into, out, to, from, len)?,
-            answer,
-            "{row}"
-        );
-        assert_eq!(rt; begins_with(&store, into), Some(bytes), "{row}");
-    }
-    let mut store = instance(&rt, rt.alloc())?;
-    assert_eq!(rt;
-        memory_copy(&mut store, 2, 0, 0, 0, 0)?,
-        Bulk::Stuck,
-        "no such target"
-    );
-    assert_eq!(rt;
-        memory_copy(&mut store, 2, 2, 0, 0, 0)?,
-        Bulk::Stuck,
-        "no such memory"
-    );
-    Ok(())
-}
-
-#[test]
-fn memories_are_filled_and_initialised(rt: HostRuntime) -> Result<(), Fail> {
-    for (memory, to, len, answer, bytes, row) in MEMORY_FILLS {
-        let mut store = instance(&rt, rt.alloc())?;
-        assert_eq!(rt;
-            memory_fill(&mut store, memory, to, 9, len)?,
-            answer,
-            "{row}"
-        );
-        assert_eq!(rt; begins_with(&store, 0), Some(bytes), "{row}");
-    }
-    for (segment, dropped, memory, to, from, len, answer, row) in MEMORY_INITS {
-        let mut store = instance(&rt, rt.alloc())?;
-        if dropped {
-            assert_eq!(rt; data_drop(&mut store, 0), Bulk::Did, "{row}");
-            assert_eq!(rt; data_drop(&mut store, 0), Bulk::Did, "{row}: again");
-        }
-        let got = memory_init(&mut store, segment, memory, to, from, len)?;
-        assert_eq!(rt; got, answer, "{row}");
-        assert_eq!(rt;
-            begins_with(&store, 1),
-            Some(0),
-            "{row}: nothing was written"
-        );
-    }
-    let mut store = instance(&rt, rt.alloc())?;
-    assert_eq!(rt; memory_init(&mut store, 0, 1, 0, 6, 2)?, Bulk::Did);
-    assert_eq!(rt; begins_with(&store, 1), Some(0x0807));
-    assert_eq!(rt; data_drop(&mut store, 1), Bulk::Stuck);
-    Ok(())
-}
-
-#[test]
-fn tables_are_copied(rt: HostRuntime) -> Result<(), Fail> {
-    for (into, out, to, from, len, answer, first, second, row) in TABLE_COPIES {
-        let mut store = instance(&rt, rt.alloc())?;
-        assert_eq!(rt;
-            table_copy(&mut store, into, out, to, from, len),
-            answer,
-            "{row}"
-        );
-        assert_eq!(rt; functions(&store, 0), first, "{row}");
-        assert_eq!(rt; functions(&store, 1), second, "{row}");
+        assert!(rt; on_memory(&mut store, *call)? == *answer, "row {row}");
+        let found = [begins_with(&store, 0), begins_with(&store, 1)];
+        assert!(rt; found == [Some(*first), Some(*second)], "bytes, row {row}");
     }
     Ok(())
 }
 
 #[test]
-fn tables_are_filled_and_initialised(rt: HostRuntime) -> Result<(), Fail> {
-    for (table, to, value, len, answer, entries, row) in TABLE_FILLS {
+fn table_instructions(rt: HostRuntime) -> Result<(), Fail> {
+    for (row, (call, answer, first, second)) in TABLE_ROWS.iter().enumerate() {
         let mut store = instance(&rt, rt.alloc())?;
-        assert_eq!(rt;
-            table_fill(&mut store, table, to, value, len),
-            answer,
-            "{row}"
-        );
-        assert_eq!(rt; functions(&store, 0), entries, "{row}");
+        assert!(rt; on_table(&mut store, *call) == *answer, "row {row}");
+        assert!(rt; has_functions(&store, 0, *first), "table 0, row {row}");
+        assert!(rt; has_functions(&store, 1, *second), "table 1, row {row}");
     }
-    for (segment, dropped, table, to, from, len, answer, entries, row) in TABLE_INITS {
-        let mut store = instance(&rt, rt.alloc())?;
-        if dropped {
-            assert_eq!(rt; elem_drop(&mut store, 0), Bulk::Did, "{row}");
-            assert_eq!(rt; elem_drop(&mut store, 0), Bulk::Did, "{row}: again");
-        }
-        let got = table_init(&mut store, segment, table, to, from, len);
-        assert_eq!(rt; got, answer, "{row}");
-        assert_eq!(rt; functions(&store, 1), entries, "{row}");
-    }
-    let mut store = instance(&rt, rt.alloc())?;
-    assert_eq!(rt; elem_drop(&mut store, 1), Bulk::Stuck);
     Ok(())
 }
 
@@ -601,41 +313,31 @@ fn grow(
     table: u32,
     by: u32,
     value: Reference,
-) -> Result<Bulk, Fail> {
-    match store.table_type(table) {
-        Some(kind) => {
-            assert!(rt; kind.limits.max == None);
-            assert!(rt; kind.limits.min < 10);
-            assert!(rt; by < 10);
-        }
-        None => {}
+) -> Result<Bulk, AllocError> {
+    if let Some(kind) = store.table_type(table) {
+        assert!(rt; kind.limits.max == None && kind.limits.min < 10 && by < 10);
     }
-    Ok(table_grow(store, table, by, value)?)
+    table_grow(store, table, by, value)
 }
 
 #[test]
-fn single_entries_and_growth(rt: HostRuntime) -> Result<(), Fail> {
-    let mut store = instance(&rt, rt.alloc())?;
-    assert_eq!(rt; table_get(&store, 0, 3), Ok(Reference::Fn(4)));
-    assert_eq!(rt; table_get(&store, 0, 4), Err(NO_ENTRY_THERE));
-    assert_eq!(rt; table_get(&store, 3, 9), Err(Bulk::Stuck));
-    assert_eq!(rt; table_set(&mut store, 0, 3, NULL), Bulk::Did);
-    assert_eq!(rt; table_set(&mut store, 0, 4, NULL), NO_ENTRY_THERE);
-    assert_eq!(rt; table_set(&mut store, 0, 9, OBJECT), Bulk::Stuck);
-    assert_eq!(rt; table_set(&mut store, 3, 0, NULL), Bulk::Stuck);
-    assert_eq!(rt; functions(&store, 0), [1, 2, 3, 0]);
-
-    // By how many, with what; the answer, and the size of the table of one object.
-    let rows = [
-        (0, OBJECT, Bulk::Did, 1),
-        (2, NULL, Bulk::Stuck, 1),
-        (2, OBJECT, Bulk::Did, 3),
-    ];
-    for (by, value, answer, size) in rows {
-        assert_eq!(rt; grow(&rt, &mut store, 2, by, value)?, answer, "by {by}");
-        assert_eq!(rt; table_size(&store, 2), Some(size), "by {by}");
+fn entries(rt: HostRuntime) -> Result<(), Fail> {
+    let store = instance(&rt, rt.alloc())?;
+    for (row, (table, at, answer)) in ENTRIES.iter().enumerate() {
+        assert!(rt; table_get(&store, *table, *at) == *answer, "row {row}");
     }
-    assert_eq!(rt; grow(&rt, &mut store, 3, 0, NULL)?, Bulk::Stuck);
-    assert_eq!(rt; table_size(&store, 3), None);
+    Ok(())
+}
+
+#[test]
+fn growth(rt: HostRuntime) -> Result<(), Fail> {
+    let mut store = instance(&rt, rt.alloc())?;
+    for (row, (table, by, value, answer, size)) in GROWTHS.iter().enumerate() {
+        assert!(rt;
+            grow(&rt, &mut store, *table, *by, *value)? == *answer,
+            "row {row}"
+        );
+        assert!(rt; table_size(&store, *table) == *size, "size, row {row}");
+    }
     Ok(())
 }

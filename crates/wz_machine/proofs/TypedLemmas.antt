@@ -25,7 +25,7 @@ use Rattle.wz_machine.proofs.ChangeLemmas.{change_keeps}
 -- ---- what a rule that leads somewhere says of segments
 
 -- its test is passed
-if-passed : (b : Bool) (rule : Rule) (before after : Operands) → Leads (rule_if b rule) before after → (b ≡ true) × Leads rule before after
+pub if-passed : (b : Bool) (rule : Rule) (before after : Operands) → Leads (rule_if b rule) before after → (b ≡ true) × Leads rule before after
 if-passed true rule before after h = (refl, h)
 if-passed false rule before after h = absurd h
 

@@ -22,8 +22,13 @@ pub mod Replies
 pub mod Accesses
 pub mod Sessions
 pub mod Leaves
+pub mod References
 pub mod Within
 pub mod Laws
 pub mod Contexts
 pub mod Flat
 pub mod TypedState
+pub mod TypedTerms
+pub mod TypedSteps
+pub mod TypedStores
+pub mod TypedLaws

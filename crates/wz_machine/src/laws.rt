@@ -7,6 +7,12 @@ ghost use Rattle.wz_machine.specs.Flat.{LeavingTerm, LoopingTerm};
 ghost use Rattle.wz_machine.specs.Laws.{LeafReads, StepReads, MemoryGrowthReads, TableGrowthReads};
 ghost use Rattle.wz_machine.specs.Laws.{ChangeKeeps, ChangeReachesState, StepAddsNone, StepNames};
 ghost use Rattle.wz_machine.specs.Laws.{LeafSame, StepSame, ObservesSame, TypedNames, ContextLasts};
+ghost use Rattle.wz_machine.specs.References.{TakesOwn, is_own, StepAddsNoReference};
+ghost use Rattle.wz_machine.specs.References.{ChangeAddsNoReference, EntryAddsNoReference};
+ghost use Rattle.wz_machine.specs.References.{PutAddsNoReference};
+ghost use Rattle.wz_machine.specs.TypedLaws.{ChangeKeepsTyping, EntryIsTyped, StepKeepsTyping};
+ghost use Rattle.wz_machine.specs.TypedLaws.{ContentNeverSticks, MoveKeepsTyping, NeverStuck};
+ghost use Rattle.wz_machine.specs.TypedStores.{ValidFunctionsAreTyped};
 
 /// What an instruction or a step does rests on nothing of the state but types, functions and what
 /// it names; growth looks at the present size and the maximum alone.
@@ -29,6 +35,17 @@ pub fn steps_write()
 pub fn steps_add_no_code()
     ensures code { StepAddsNone }
     ensures segments { StepNames }
+{}
+
+/// Where null and the instance's own functions pass a test of references, a step puts none
+/// anywhere that fails it, if there was none before; nor does a change, a call or an answer. The
+/// test that references of the host fail is such a test.
+pub fn steps_add_no_references()
+    ensures steps { StepAddsNoReference }
+    ensures changes { ChangeAddsNoReference }
+    ensures entries { EntryAddsNoReference }
+    ensures answers { PutAddsNoReference }
+    ensures own { TakesOwn is_own }
 {}
 
 /// More segments than are named change no step, and nothing that is seen of an instance.
@@ -65,8 +82,31 @@ pub fn flat_terms()
 {}
 
 /// The functions of a typed state name no segment that isn't there, and the context in which it
-/// is typed is the same after each change.
+/// is typed is the same after each change. What changes it keeps it typed; and functions that are
+/// valid in their module are typed in the state that a store and the module's bodies are.
 pub fn typed_states()
     ensures segments { TypedNames }
     ensures context { ContextLasts }
+    ensures changes { ChangeKeepsTyping }
+    ensures functions { ValidFunctionsAreTyped }
 {}
+
+/// A call gives a typed term; a step of a typed term keeps the typing, and whatever stands in its
+/// labels and frames has a rule.
+pub fn typed_terms()
+    ensures entries { EntryIsTyped }
+    ensures steps { StepKeepsTyping }
+    ensures contents { ContentNeverSticks }
+{
+    // a numeric operation answers operands of its types
+    wz_num::laws::operands_are_served();
+}
+
+/// Any move from outside keeps the typing, and no move of a session from a typed state is stuck.
+pub fn never_stuck()
+    ensures moves { MoveKeepsTyping }
+    ensures sessions { NeverStuck }
+{
+    // a numeric operation answers operands of its types
+    wz_num::laws::operands_are_served();
+}

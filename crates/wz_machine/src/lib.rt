@@ -8,7 +8,9 @@
 //! instruction. `BlockSteps` has blocks, labels and frames, `Step` the step, `Next` the
 //! instruction that it reduces, `Entered` the term of a call. `Moves`, `Replies`, `Accesses` and
 //! `Sessions` are what is done with an instance from outside, and what is seen of it. `Leaves`,
-//! `Within`, `Contexts` and `Flat` are what the laws speak of.
+//! `Within`, `Contexts` and `Flat` are what the laws speak of. `TypedState`, `TypedTerms`,
+//! `TypedSteps` and `TypedStores` say when all that is typed (section 7.5, soundness), and
+//! `TypedLaws` that it stays so and is never stuck.
 #![tactic(auto)]
 
 pub mod laws;

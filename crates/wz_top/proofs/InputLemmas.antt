@@ -5,7 +5,9 @@ use Rattle.std.specs.Option.{option_and_then}
 use Rattle.std.specs.FinMap.{get}
 use Rattle.wz_io.specs.World.{Told, Name, Standard, File, Contents, input_of, IsThere}
 use Rattle.wz_io.specs.Reading.{TakesSome, input_limit}
-use Rattle.wz_top.specs.Devices.{IsInput}
+use Rattle.wz_words.specs.declared.settings.InputFrom.{InputFrom}
+use Rattle.wz_words.specs.declared.settings.InputFrom.TheVariants as input
+use Rattle.wz_top.specs.Devices.{IsInput, IsInputFrom, IsInputTold}
 
 abbrev given : List ℕ → Option (List ℕ)
 given bytes = Some bytes
@@ -56,3 +58,8 @@ file_one (Some f) path a b there is-a is-b = some_is a b (sym is-a ∙ is-b)
 pub one_input : (told : Told) (name : Name) (a b : List ℕ) → IsSome (input_of told name) → IsInput told name a → IsInput told name b → a ≡ b
 one_input told Standard a b there is-a is-b = stdin_one told.stdin a b there is-a is-b
 one_input told (File path) a b there is-a is-b = file_one told.files path a b there is-a is-b
+
+pub one_input_from : (told : Told) (from : InputFrom) (a b : List ℕ) → IsInputTold told from → IsInputFrom told from a → IsInputFrom told from b → a ≡ b
+one_input_from told input.Standard a b there is-a is-b = one_input told Standard a b there is-a is-b
+one_input_from told (input.Path path) a b there is-a is-b = one_input told (File path) a b there is-a is-b
+one_input_from told (input.Sample number) a b there is-a is-b = is-a ∙ sym is-b

@@ -1,3 +1,7 @@
+pub mod TurnLemmas
+pub mod SampleLaws
+pub mod OutsideLaws
+pub mod SayingLemmas
 pub mod DeliverLemmas
 pub mod VerdictLaws
 pub mod InputLemmas

@@ -1,5 +1,5 @@
 -- Bytes ask for one thing at most, and what the steps find is what they ask for.
-use Rattle.std.proofs.Common.{◌≡◌, ℕ, suc, ◌<◌, List, [], ◌∷◌, ◌++◌, map, take, drop, Bool, true, false, refl, sym, ap, subst, ◌∙◌, arith}
+use Rattle.std.proofs.Common.{◌≡◌, ℕ, suc, ◌<◌, List, [], ◌∷◌, ◌++◌, map, take, drop, Bool, true, false, refl, sym, ap, subst, ◌∙◌, arith, inl, inr}
 use Rattle.std.specs.declared.alloc.Global.{Global as Heap}
 use Rattle.std.specs.declared.alloc.AllocError.{AllocError}
 use Rattle.std.specs.Prelude.{Option, Some, None, Result, Ok, Err, Vec, IfOk, IfSome, IsNone, All, Any, nat_eq, IsTrue, ◌≢◌}
@@ -11,20 +11,35 @@ use Rattle.std.proofs.lemmas.List.Elements.{All-nil, All-cons, All-head, All-tai
 use Rattle.std.proofs.Math.ListN.{length-map}
 use Rattle.wz_bytes.proofs.FormLaws.{all_found, all_again}
 use Rattle.wz_bytes.proofs.ReadingLemmas.{some_is, guarded, none_given}
+use Rattle.wz_module.specs.Module.{Module}
+use Rattle.wz_decode.specs.declared.fault.DecodeFault.{DecodeFault}
+use Rattle.wz_decode.specs.Laws.{OneModule, CauseIsOne, SpelledHasNone}
+use Rattle.wz_valid.specs.declared.faults.Part.{Part}
+use Rattle.wz_valid.specs.declared.faults.ValidFault.TheVariants as valid
+use Rattle.wz_valid.specs.declared.faults.OutOfProfile.{OutOfProfile}
+use Rattle.wz_valid.specs.Laws.{FirstIsOne, ValidHasNone, InsideIsNotOutside}
+use Rattle.wz_words.specs.Settings.{Settings, default_fuel}
+use Rattle.wz_exports.specs.Kept.{KeptExports}
+use Rattle.wz_exports.specs.declared.fault.ExportFault.{ExportFault}
 use Rattle.wz_top.specs.FirstGrammar.{FirstModule, FirstExport, SpellsFirst, AreFirstSections, first_header}
 use Rattle.wz_top.specs.FirstReading.{module_at, sections_at}
-use Rattle.wz_top.specs.FirstRun.{FirstState, IsFirst, IsGoing, Leaves, IsTargetOk, AreDistinct, initialize}
+use Rattle.wz_top.specs.FirstRun.{FirstState, IsFirst, IsGoing, Leaves, IsTargetOk, AreDistinct}
 use Rattle.wz_top.specs.FirstViews.{export_view, module_view}
 use Rattle.wz_top.specs.FirstWriter.{output, report}
 use Rattle.wz_top.specs.declared.first_grammar.Module.{Module as ModuleStruct}
-use Rattle.wz_top.specs.Verdict.{Verdict, Refuses, Gives, IsVerdict, IsRefusedBy, IsNoInit, HasInit, HasNoInit}
+use Rattle.wz_top.specs.Verdict.{Verdict, Refuses, Gives, GoesThrough, NothingGoes, RunGives, RunAsks, ExportsAsk, ProfileAsks, ModuleAsks, IsVerdict, OneVerdict}
 use Rattle.wz_top.specs.declared.first_grammar.Global.{Global}
 use Rattle.wz_top.specs.declared.first_grammar.Instruction.{Instruction}
 use Rattle.wz_top.specs.declared.outcome.Report.{Report}
-use Rattle.wz_top.specs.declared.outcome.ExportFault.TheVariants as fault
-use Rattle.wz_top.specs.declared.outcome.Outcome.{Outcome}
-use Rattle.wz_top.specs.declared.outcome.Outcome.TheVariants.{NotYet, Exports, NoMemory}
+use Rattle.wz_top.specs.declared.outcome.Outcome.TheVariants.{NotYet, Decode, Valid, Profile, Exports}
 use Rattle.wz_top.proofs.FirstLaws.{sections_exact}
+use Rattle.wz_top.proofs.OutsideLaws.{one_outside}
+
+abbrev asked_ok : KeptExports → Result KeptExports ExportFault
+asked_ok k = Ok k
+
+abbrev asked_err : ExportFault → Result KeptExports ExportFault
+asked_err fault = Err fault
 
 -- ---- one module
 
@@ -60,88 +75,68 @@ one_first bytes m n a b p q =
 
 -- ---- what the steps find
 
-pub not_read : (bytes : List ℕ) → module_at bytes ≡ None → IsVerdict bytes (Refuses NotYet)
-unfolding IsVerdict
-not_read bytes none = λ m reached first. none_given m (module_at bytes) none (module_again bytes m first.spelled)
+pub not_read : (s : Settings) (bytes : List ℕ) → module_at bytes ≡ None → NothingGoes s bytes
+not_read s bytes none = λ m reached goes. none_given m (module_at bytes) none (module_again bytes m goes.is_first.spelled)
 
-pub not_going : (bytes : List ℕ) (m : FirstModule) → module_at bytes ≡ Some m → ((reached : List Global) → IsGoing m reached → ⊥) → IsVerdict bytes (Refuses NotYet)
-unfolding IsVerdict
-not_going bytes m e none = λ n reached first.
-    let same : n ≡ m = one_module bytes n m first.spelled (module_found bytes m e) in
-    none reached (subst (λ (k : FirstModule). IsGoing k reached) same first.goes)
+pub not_going : (s : Settings) (bytes : List ℕ) (m : FirstModule) → module_at bytes ≡ Some m → ((reached : List Global) → IsGoing m reached → ⊥) → NothingGoes s bytes
+not_going s bytes m e none = λ n reached goes.
+    let same : n ≡ m = one_module bytes n m goes.is_first.spelled (module_found bytes m e) in
+    none reached (subst (λ (k : FirstModule). IsGoing k reached) same goes.is_first.goes)
 
-goes_first : (bytes : List ℕ) (m : FirstModule) (reached : List Global) → module_at bytes ≡ Some m → IsGoing m reached → IsFirst bytes m reached
-goes_first bytes m reached e goes = record { spelled = module_found bytes m e; goes = goes }
+pub goes_through : (s : Settings) (bytes : List ℕ) (m : FirstModule) (reached : List Global) → s.reactor ≡ false → s.fuel ≡ default_fuel → module_at bytes ≡ Some m
+    → IsGoing m reached → GoesThrough s bytes m reached
+goes_through s bytes m reached reactor fuel e goes =
+    record { is_first = record { spelled = module_found bytes m e; goes = goes }; reactor = reactor; fuel = fuel }
 
-pub no_init : (bytes : List ℕ) (m : FirstModule) (reached : List Global) (o : Outcome) → module_at bytes ≡ Some m → IsGoing m reached → HasNoInit m → IsNoInit o
-    → IsRefusedBy bytes o
-unfolding IsVerdict
-no_init bytes m reached NoMemory e goes none is = tt
-no_init bytes m reached (Exports (fault.NoInit name)) e goes none is = (m, reached, goes_first bytes m reached e goes, none, is)
-no_init bytes m reached o e goes none is = absurd is
-
-pub gives : (bytes : List ℕ) (m : FirstModule) (reached : List Global) (said : Report) (right : List ℕ) → module_at bytes ≡ Some m → IsGoing m reached → HasInit m
-    → said ≡ report m reached → right ≡ output m reached → IsVerdict bytes (Gives said right)
-unfolding IsVerdict
-gives bytes m reached said right e goes init said-is right-is = (m, reached, goes_first bytes m reached e goes, init, said-is, right-is)
+pub run_made : (s : Settings) (bytes : List ℕ) (k : KeptExports) (m : FirstModule) (reached : List Global) (said : Report) (right : List ℕ) → GoesThrough s bytes m reached
+    → said ≡ report m reached k.entries → right ≡ output m reached k.entries → RunGives s bytes k said right
+run_made s bytes k m reached said right goes said-is right-is =
+    inr (m, reached, goes, ap (λ (r : Report). Gives r right) said-is ∙ ap (λ (b : List ℕ). Gives (report m reached k.entries) b) right-is)
 
 -- ---- one verdict
 
-record OfInit (bytes : List ℕ) (v : Verdict) : Type 0 where
-  first : FirstModule
-  reached : List Global
-  is : IsFirst bytes first reached
-  init : HasInit first
-  made : v ≡ Gives (report first reached) (output first reached)
+one_run : (s : Settings) (bytes : List ℕ) (k : KeptExports) (v w : Verdict) → RunAsks s bytes k v → RunAsks s bytes k w → v ≡ w
+one_run s bytes k v w (inl p) (inl q) = p.1 ∙ sym q.1
+one_run s bytes k v w (inl p) (inr q) = absurd (p.0 q.0 q.1 q.2)
+one_run s bytes k v w (inr p) (inl q) = absurd (q.0 p.0 p.1 p.2)
+one_run s bytes k v w (inr p) (inr q) =
+    let same = one_first bytes p.0 q.0 p.1 q.1 p.2.is_first q.2.is_first in
+    p.3 ∙ ap (λ (m : FirstModule). Gives (report m p.1 k.entries) (output m p.1 k.entries)) same.0
+    ∙ ap (λ (r : List Global). Gives (report q.0 r k.entries) (output q.0 r k.entries)) same.1 ∙ sym q.3
 
-record OfNoInit (bytes : List ℕ) (v : Verdict) : Type 0 where
-  first : FirstModule
-  reached : List Global
-  is : IsFirst bytes first reached
-  none : HasNoInit first
-  made : v ≡ Refuses (Exports (fault.NoInit initialize))
+one_kept : (s : Settings) (bytes : List ℕ) (m : Module) (v w : Verdict) → ExportsAsk s bytes m v → ExportsAsk s bytes m w → v ≡ w
+one_kept s bytes m v w (inl p) (inl q) = let e : asked_err p.0 ≡ asked_err q.0 = sym p.1 ∙ q.1 in let same : p.0 ≡ q.0 = cc in p.2 ∙ ap (λ (f : ExportFault). Refuses (Exports f)) same ∙ sym q.2
+one_kept s bytes m v w (inl p) (inr q) = let e : asked_err p.0 ≡ asked_ok q.0 = sym p.1 ∙ q.1 in absurd cc
+one_kept s bytes m v w (inr p) (inl q) = let e : asked_ok p.0 ≡ asked_err q.0 = sym p.1 ∙ q.1 in absurd cc
+one_kept s bytes m v w (inr p) (inr q) =
+    let e : asked_ok p.0 ≡ asked_ok q.0 = sym p.1 ∙ q.1 in
+    let same : p.0 ≡ q.0 = cc in
+    one_run s bytes q.0 v w (subst (λ (k : KeptExports). RunAsks s bytes k v) same p.2) q.2
 
-record OfNone (bytes : List ℕ) (v : Verdict) : Type 0 where
-  none : (first : FirstModule) (reached : List Global) → IsFirst bytes first reached → ⊥
-  made : v ≡ Refuses NotYet
+-- ---- by the laws of the crates below
 
-data Kind (bytes : List ℕ) (v : Verdict) : Type 0 where
-  init : OfInit bytes v → Kind bytes v
-  missing : OfNoInit bytes v → Kind bytes v
-  nothing : OfNone bytes v → Kind bytes v
+module _ (modules : OneModule) (causes : CauseIsOne) (spelled : SpelledHasNone) (firsts : FirstIsOne) (valid_has : ValidHasNone) (inside : InsideIsNotOutside) where
+  one_profile : (s : Settings) (bytes : List ℕ) (m : Module) (v w : Verdict) → ProfileAsks s bytes m v → ProfileAsks s bytes m w → v ≡ w
+  one_profile s bytes m v w (inl p) (inl q) = p.2 ∙ ap (λ (c : OutOfProfile). Refuses (Profile c)) (one_outside m p.0 q.0 p.1 q.1) ∙ sym q.2
+  one_profile s bytes m v w (inl p) (inr q) = absurd (inside m p.0 q.0 p.1)
+  one_profile s bytes m v w (inr p) (inl q) = absurd (inside m q.0 p.0 q.1)
+  one_profile s bytes m v w (inr p) (inr q) = one_kept s bytes m v w p.1 q.1
 
-kind_of : (bytes : List ℕ) (v : Verdict) → IsVerdict bytes v → Kind bytes v
-unfolding IsVerdict
-kind_of bytes (Refuses NotYet) h = nothing (record { none = h; made = refl })
-kind_of bytes (Refuses (Exports (fault.NoInit name))) h =
-    missing (record { first = h.0; reached = h.1; is = h.2; none = h.3; made = ap (λ (n : List ℕ). Refuses (Exports (fault.NoInit n))) h.4 })
-kind_of bytes (Gives said right) h =
-    init (record { first = h.0; reached = h.1; is = h.2; init = h.3; made = ap (λ (r : Report). Gives r right) h.4 ∙ ap (λ (b : List ℕ). Gives (report h.0 h.1) b) h.5 })
-kind_of bytes v h = absurd h
+  one_checked : (s : Settings) (bytes : List ℕ) (m : Module) (v w : Verdict) → ModuleAsks s bytes m v → ModuleAsks s bytes m w → v ≡ w
+  one_checked s bytes m v w (inl p) (inl q) =
+      let same = firsts m p.0 q.0 p.1 q.1 p.2 q.2 in
+      p.3 ∙ ap (λ (x : Part). Refuses (Valid (valid.Invalid x p.1))) same.0 ∙ ap (λ (i : ℕ). Refuses (Valid (valid.Invalid q.0 i))) same.1 ∙ sym q.3
+  one_checked s bytes m v w (inl p) (inr q) = absurd (valid_has m p.0 p.1 q.0 p.2)
+  one_checked s bytes m v w (inr p) (inl q) = absurd (valid_has m q.0 q.1 p.0 q.2)
+  one_checked s bytes m v w (inr p) (inr q) = one_profile s bytes m v w p.1 q.1
 
-not_both : (m : FirstModule) → HasInit m → HasNoInit m → ⊥
-not_both m any all =
-    subst (λ (e : FirstExport). e.name ≢ initialize) any.3 (All-get_or (λ e. e.name ≢ initialize) m.exports any.0 any.1 any.2 all) any.4
-
-pub one_verdict : (bytes : List ℕ) (v w : Verdict) → IsVerdict bytes v → IsVerdict bytes w → v ≡ w
-one_verdict bytes v w a b = by (kind_of bytes v a) (kind_of bytes w b) where
-  by : Kind bytes v → Kind bytes w → v ≡ w
-  by (nothing p) (nothing q) = p.made ∙ sym q.made
-  by (nothing p) (missing q) = absurd (p.none q.first q.reached q.is)
-  by (nothing p) (init q) = absurd (p.none q.first q.reached q.is)
-  by (missing p) (nothing q) = absurd (q.none p.first p.reached p.is)
-  by (missing p) (missing q) = p.made ∙ sym q.made
-  by (missing p) (init q) =
-      let same = one_first bytes p.first q.first p.reached q.reached p.is q.is in
-      absurd (not_both q.first q.init (subst (λ (m : FirstModule). HasNoInit m) same.0 p.none))
-  by (init p) (nothing q) = absurd (q.none p.first p.reached p.is)
-  by (init p) (missing q) =
-      let same = one_first bytes p.first q.first p.reached q.reached p.is q.is in
-      absurd (not_both q.first (subst (λ (m : FirstModule). HasInit m) same.0 p.init) q.none)
-  by (init p) (init q) =
-      let same = one_first bytes p.first q.first p.reached q.reached p.is q.is in
-      p.made ∙ ap (λ (m : FirstModule). Gives (report m p.reached) (output m p.reached)) same.0
-      ∙ ap (λ (r : List Global). Gives (report q.first r) (output q.first r)) same.1 ∙ sym q.made
+  pub one_verdict : OneVerdict
+  unfolding IsVerdict
+  one_verdict s bytes v w (inl p) (inl q) = p.2 ∙ ap (λ (f : DecodeFault). Refuses (Decode f)) (causes bytes p.0 q.0 p.1 q.1) ∙ sym q.2
+  one_verdict s bytes v w (inl p) (inr q) = absurd (spelled bytes q.0 p.0 q.1 p.1)
+  one_verdict s bytes v w (inr p) (inl q) = absurd (spelled bytes p.0 q.0 p.1 q.1)
+  one_verdict s bytes v w (inr p) (inr q) =
+      one_checked s bytes q.0 v w (subst (λ (m : Module). ModuleAsks s bytes m v) (modules bytes p.0 q.0 p.1 q.1) p.2) q.2
 
 -- ---- exports, as they are read and as they are kept
 
@@ -149,37 +144,21 @@ pub all_unmap : {X Y : Type 0} (P : X → Type 0) (f : Y → X) (ys : List Y) �
 all_unmap P f [] h = All-nil _
 all_unmap P f (y ∷ ys) h = All-cons (λ z. P (f z)) y ys (All-head P (f y) (map f ys) h) (all_unmap P f ys (All-tail P (f y) (map f ys) h))
 
-pub any_map : {X Y : Type 0} (P : X → Type 0) (f : Y → X) (ys : List Y) → Any (λ y. P (f y)) ys → Any P (map f ys)
-any_map P f ys h =
-    (h.0, f h.1, subst (λ (n : ℕ). h.0 < n) (sym (length-map ys f)) h.2, get_or-map f ys h.0 h.1 (f h.1) h.2 ∙ ap f h.3, h.4)
-
-pub none_any : {X : Type 0} (P : X → Type 0) (xs : List X) → (Any P xs → ⊥) → All (λ x. P x → ⊥) xs
-none_any P [] never = All-nil _
-none_any P (x ∷ xs) never =
-    All-cons (λ y. P y → ⊥) x xs (λ p. never (0, x, omega arith, refl, p))
-    (none_any P xs (λ h. never (suc h.0, h.1, let less = h.2 in omega (arith, less), h.3, h.4)))
-
 -- ---- the module as the code has it
 
 pub goes_by : (m : ModuleStruct) (reached : List Global) → AreDistinct (map (λ e. e.name.now) m.exports.items)
-    → All (λ e. IsTargetOk e.target e.name.now m.globals.items) m.exports.items → Leaves m.instructions.items m.globals.items reached → IsGoing (module_view m) reached
+    → All (λ e. IsTargetOk e.target m.globals.items) m.exports.items → Leaves m.instructions.items m.globals.items reached → IsGoing (module_view m) reached
 goes_by m reached distinct targets leaves = record {
   distinct = subst (λ (names : List (List ℕ)). AreDistinct names) (sym (map-map (λ (e : FirstExport). e.name) export_view m.exports.items)) distinct;
-  targets = All-map (λ (e : FirstExport). IsTargetOk e.target e.name m.globals.items) export_view m.exports.items targets;
+  targets = All-map (λ (e : FirstExport). IsTargetOk e.target m.globals.items) export_view m.exports.items targets;
   runs = leaves;
 }
 
 pub names_go : (m : ModuleStruct) (reached : List Global) → IsGoing (module_view m) reached → AreDistinct (map (λ e. e.name.now) m.exports.items)
 names_go m reached goes = subst (λ (names : List (List ℕ)). AreDistinct names) (map-map (λ (e : FirstExport). e.name) export_view m.exports.items) goes.distinct
 
-pub targets_go : (m : ModuleStruct) (reached : List Global) → IsGoing (module_view m) reached → All (λ e. IsTargetOk e.target e.name.now m.globals.items) m.exports.items
-targets_go m reached goes = all_unmap (λ (e : FirstExport). IsTargetOk e.target e.name m.globals.items) export_view m.exports.items goes.targets
-
-pub init_by : (m : ModuleStruct) → Any (λ e. e.name.now ≡ initialize) m.exports.items → HasInit (module_view m)
-init_by m any = any_map (λ (e : FirstExport). e.name ≡ initialize) export_view m.exports.items any
-
-pub no_init_by : (m : ModuleStruct) → (Any (λ e. e.name.now ≡ initialize) m.exports.items → ⊥) → HasNoInit (module_view m)
-no_init_by m never = All-map (λ (e : FirstExport). e.name ≢ initialize) export_view m.exports.items (none_any (λ e. e.name.now ≡ initialize) m.exports.items never)
+pub targets_go : (m : ModuleStruct) (reached : List Global) → IsGoing (module_view m) reached → All (λ e. IsTargetOk e.target m.globals.items) m.exports.items
+targets_go m reached goes = all_unmap (λ (e : FirstExport). IsTargetOk e.target m.globals.items) export_view m.exports.items goes.targets
 
 pub absent : (b : Bool) (P : Type 0) → (IsTrue b → P) × (P → IsTrue b) → b ≡ false → P → ⊥
 absent b P tells is h = let e = tells.1 h in absurd (let f : true ≡ false = sym e ∙ is in cc)

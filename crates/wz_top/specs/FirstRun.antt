@@ -1,5 +1,5 @@
 -- What the code of such a module does: section 4.4 of the Core Specification, for four instructions.
-use Rattle.std.specs.Prelude.{◌≡◌, ◌≢◌, ℕ, ◌+◌, ◌%◌, ◌^◌, ◌<◌, List, [], ◌∷◌, length, slice_get, slice_set, Option, Some, None, if◌then◌else◌, All, map, codes, ⊤}
+use Rattle.std.specs.Prelude.{◌≡◌, ◌≢◌, ℕ, ◌+◌, ◌%◌, ◌^◌, ◌<◌, List, [], ◌∷◌, length, slice_get, slice_set, Option, Some, None, if◌then◌else◌, All, map, ⊤}
 use Rattle.std.specs.Option.{option_map, option_and_then}
 use Rattle.wz_top.specs.FirstGrammar.{FirstModule, FirstExport, SpellsFirst}
 use Rattle.wz_top.specs.declared.first_grammar.Global.{Global}
@@ -47,13 +47,10 @@ Leaves instructions globals reached =
 
 -- ---- which modules go through
 
-abbrev pub initialize : List ℕ
-initialize = codes "wizer.initialize"
-
--- An export names function 0 or a global that is there, and under the initialisation's name the function.
-abbrev pub IsTargetOk : Target → List ℕ → List Global → Type 0
-IsTargetOk target.Function name globals = ⊤
-IsTargetOk (target.Global index) name globals = (index < length globals) × (name ≢ initialize)
+-- An export names function 0 or a global that is there.
+abbrev pub IsTargetOk : Target → List Global → Type 0
+IsTargetOk target.Function globals = ⊤
+IsTargetOk (target.Global index) globals = index < length globals
 
 -- each name is another than all later ones
 abbrev pub AreDistinct : List (List ℕ) → Type 0
@@ -66,7 +63,7 @@ HaveDistinctNames exports = AreDistinct (map (λ export. export.name) exports)
 -- The module keeps its rules, and its code leaves these globals.
 pub record IsGoing (first : FirstModule) (reached : List Global) : Type 0 where
   pub distinct : HaveDistinctNames first.exports
-  pub targets : All (λ export. IsTargetOk export.target export.name first.globals) first.exports
+  pub targets : All (λ export. IsTargetOk export.target first.globals) first.exports
   pub runs : Leaves first.instructions first.globals reached
 
 -- The bytes are a module that goes through, whose code leaves these globals.

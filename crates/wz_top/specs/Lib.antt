@@ -1,4 +1,7 @@
 pub mod Outcome
+pub mod Texts
+pub mod Saying
+pub mod Pieces
 pub mod Words
 pub mod Devices
 pub mod FirstGrammar
@@ -8,5 +11,6 @@ pub mod FirstViews
 pub mod FirstRun
 pub mod FirstRunViews
 pub mod FirstWriter
+pub mod Refusals
 pub mod Verdict
 pub mod Asked

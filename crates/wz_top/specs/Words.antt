@@ -1,24 +1,32 @@
--- What the words of the command line name. The words are this tool's own.
-use Rattle.std.specs.Prelude.{ℕ, Bool, false, ◌&&◌, ◌==◌, not, if◌then◌else◌, List, [], ◌∷◌, Option, None, Some}
-use Rattle.wz_io.specs.World.{Name, File}
+-- What the settings of a run name. All of it is this tool's own.
+use Rattle.std.specs.Prelude.{ℕ, Bool, true, false, ◌||◌, List, Option, None, Some, Result, Ok, Err}
+use Rattle.wz_io.specs.World.{Name, Standard, File}
+use Rattle.wz_words.specs.declared.settings.InputFrom.{InputFrom}
+use Rattle.wz_words.specs.declared.settings.InputFrom.TheVariants as input
+use Rattle.wz_words.specs.declared.settings.OutputTo.{OutputTo}
+use Rattle.wz_words.specs.declared.settings.OutputTo.TheVariants as output
+use Rattle.wz_words.specs.declared.settings.Usage.{Usage}
+use Rattle.wz_words.specs.Settings.{Settings}
 
-pub record FileNames : Type 0 where
-  pub input : Name
-  pub output : Name
+-- where the input is read; a sample is read nowhere
+abbrev pub input_name : InputFrom → Option Name
+input_name input.Standard = Some Standard
+input_name (input.Path path) = Some (File path)
+input_name (input.Sample number) = None
 
-abbrev pub begins_with_dash : List ℕ → Bool
-begins_with_dash [] = false
-begins_with_dash (b ∷ bytes) = b == 45
+abbrev pub output_name : OutputTo → Name
+output_name output.Standard = Standard
+output_name (output.Path path) = File path
 
--- the word `-o`
-abbrev pub is_output_option : List ℕ → Bool
-is_output_option (a ∷ b ∷ []) = a == 45 && b == 111
-is_output_option bytes = false
+abbrev pub is_sample : InputFrom → Bool
+is_sample input.Standard = false
+is_sample (input.Path path) = false
+is_sample (input.Sample number) = true
 
--- The words are `IN -o OUT`, where neither path begins with a dash.
-abbrev pub names : List (List ℕ) → Option FileNames
-names (input ∷ option ∷ output ∷ []) =
-    if not (begins_with_dash input) && is_output_option option && not (begins_with_dash output)
-    then Some (record { input = File input; output = File output })
-    else None
-names words = None
+-- the report is printed where it is asked for, and always for a sample
+abbrev pub wants_report : Settings → Bool
+wants_report s = s.report || is_sample s.input
+
+abbrev pub is_reported : Result Settings Usage → Bool
+is_reported (Ok s) = wants_report s
+is_reported (Err usage) = false

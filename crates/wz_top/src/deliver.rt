@@ -13,6 +13,9 @@ pub fn deliver<F: Files>(files: &mut F, name: FileName<'_>, bytes: &[u8]) -> Res
         (HasWritten (name_of name.entry) bytes.now (F.world files.old) (F.world files.new)) }
     ensures failed { IsErrOf result OpenFault.Failed →
         HasFailed Output (name_of name.entry) (F.world files.old) (F.world files.new) }
+    ensures kept { IsErrOf result OpenFault.NoMemory →
+        F.world files.new ≡ F.world files.old }
+    ensures reads { (F.world files.new).reads ≡ (F.world files.old).reads }
     ensures prefix { HoldsPrefix (name_of name.entry) bytes.now
         (F.world files.old) (F.world files.new) }
 {

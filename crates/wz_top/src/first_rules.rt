@@ -1,44 +1,26 @@
 //! The rules on the exports of such a module.
 
-ghost use Rattle.std.specs.Prelude.{◌≡◌, ◌↔◌, IsTrue, IfOk, All, Any, map, nat_eq};
-ghost use Rattle.std.specs.Cmp.Lexicographic.{pointwise};
-ghost use Rattle.wz_top.specs.FirstRun.{AreDistinct, IsTargetOk, initialize};
+ghost use Rattle.std.specs.Prelude.{◌↔◌, IsTrue, IfOk, All, map};
+ghost use Rattle.wz_top.specs.FirstRun.{AreDistinct, IsTargetOk};
 
 use crate::first_grammar::{Export, Global, Target};
 use std::alloc::{AllocError, Global as Heap};
 use std::collections::BTreeSet;
 
-/// The name under which a module exports its initialisation.
-pub const INITIALIZE: &str = "wizer.initialize";
-
-pub fn is_initialize(name: &str) -> bool
-    ensures test { result ≡ pointwise nat_eq name.now initialize }
-    ensures is { IsTrue result ↔ (name.now ≡ initialize) }
-{
-    name == INITIALIZE
-}
-
 fn is_target_ok(export: &Export<'_>, globals: &[Global]) -> bool
-    ensures { IsTrue result ↔ IsTargetOk export.now.target export.now.name.now globals.now }
+    ensures { IsTrue result ↔ IsTargetOk export.now.target globals.now }
 {
     match export.target {
         Target::Function => true,
-        Target::Global(index) => (index as usize) < globals.len() && !is_initialize(export.name),
+        Target::Global(index) => (index as usize) < globals.len(),
     }
 }
 
 /// Whether every export names what is there.
 pub fn are_targets_ok(exports: &[Export<'_>], globals: &[Global]) -> bool
-    ensures { IsTrue result ↔ All (λ export. IsTargetOk export.target export.name.now globals.now) exports.now }
+    ensures { IsTrue result ↔ All (λ export. IsTargetOk export.target globals.now) exports.now }
 {
     exports.iter().all(|export| is_target_ok(export, globals))
-}
-
-/// Whether an export has the name of the initialisation.
-pub fn has_initialize(exports: &[Export<'_>]) -> bool
-    ensures { IsTrue result ↔ Any (λ export. export.name.now ≡ initialize) exports.now }
-{
-    exports.iter().any(|export| is_initialize(export.name))
 }
 
 /// Whether no two exports have the same name.

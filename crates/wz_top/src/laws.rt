@@ -2,7 +2,15 @@
 
 ghost use Rattle.wz_top.specs.Verdict.{OneVerdict};
 
+use wz_decode::laws as decode_laws;
+use wz_valid::laws as valid_laws;
+
 /// Bytes ask for one thing at most: one refusal, or one output with its report.
 pub fn bytes_ask_once()
     ensures { OneVerdict }
-{}
+{
+    // For the proof: bytes spell one module, and each step has one cause at most.
+    decode_laws::at_most_one();
+    decode_laws::one_cause();
+    valid_laws::one_cause();
+}

@@ -11,6 +11,7 @@ mod deliver;
 mod fetch;
 mod first_grammar;
 mod first_module;
+mod first_path;
 mod first_reader;
 mod first_rules;
 mod first_run;
@@ -18,11 +19,14 @@ mod first_vector;
 mod first_writer;
 pub mod laws;
 mod outcome;
+mod pieces;
+mod refusals;
 #[cfg(test)]
 mod tests;
+mod texts;
 mod top;
 mod turn;
-mod words;
 
-pub use outcome::{ExportFault, Outcome, Report};
+pub use outcome::{Outcome, Report};
+pub use texts::print_outcome;
 pub use top::wizer;

@@ -1,8 +1,8 @@
-//! Published modules and the answers to them, and devices that fail.
+//! Published modules and the answers to them with their lines, and devices that fail.
 
 ghost use Rattle.std.specs.Prelude.{◌<◌};
 
-use crate::{ExportFault, Outcome, wizer};
+use crate::{Outcome, wizer};
 use std::alloc::{AllocError, Global};
 use std::test::Fail;
 use wz_io::{CallKind, INPUT_LIMIT, MemFiles, MemSink, Side};
@@ -25,8 +25,10 @@ const GLOBALS_AFTER: &[u8] = b"\x06\x06\x01\x7F\x01\x41\x2A\x0B";
 
 const EXPORTS_AFTER: &[u8] = b"\x07\x01\0";
 
+const WORDS: [&str; 3] = ["in.wasm", "-o", "out.wasm"];
+
 fn joined(alloc: Global, pieces: &[&[u8]]) -> Result<Vec<u8>, AllocError> {
-    let mut bytes = Vec::from_slice(alloc, HEADER)?;
+    let mut bytes = Vec::new(alloc);
     for piece in pieces {
         bytes.extend_from_slice(piece)?;
     }
@@ -41,15 +43,25 @@ fn texts(alloc: Global, words: &[&str]) -> Result<Vec<Text>, AllocError> {
     Ok(texts)
 }
 
-const WORDS: [&str; 3] = ["in.wasm", "-o", "out.wasm"];
+// How a run ended, the files and the messages behind it.
+#[derive(Drop)]
+struct Ending {
+    outcome: Outcome,
+    files: MemFiles,
+    messages: MemSink,
+}
 
-// The outcome, and the files behind it, where the input has these pieces.
-fn answer(alloc: Global, pieces: &[&[u8]]) -> Result<(Outcome, MemFiles), AllocError> {
+// The end of a run with these words, where the input has these pieces.
+fn ended(alloc: Global, words: &[&str], pieces: &[&[u8]]) -> Result<Ending, AllocError> {
     let mut files = MemFiles::new(alloc, Vec::new(alloc), 4096);
-    let mut messages = MemSink::new(alloc, Some(1));
+    let mut messages = MemSink::new(alloc, None);
     files.put_file("in.wasm", joined(alloc, pieces)?)?;
-    let outcome = wizer(alloc, &texts(alloc, &WORDS)?, &mut files, &mut messages);
-    Ok((outcome, files))
+    let outcome = wizer(alloc, &texts(alloc, words)?, &mut files, &mut messages);
+    Ok(Ending {
+        outcome,
+        files,
+        messages,
+    })
 }
 
 #[test]
@@ -63,117 +75,219 @@ fn modules_go_through(rt: HostRuntime) -> Result<(), Fail> {
     let two_globals_after: &[u8] = b"\x06\x0B\x02\x7F\0\x41\x7E\x0B\x7F\x01\x41\x7E\x0B";
     let three: &[u8] = b"\x07\x1D\x03\x01g\x03\x81\0\x10wizer.initialize\0\0\x01f\0\0";
     let two: &[u8] = b"\x07\x09\x02\x01g\x03\x01\x01f\0\0";
-    let table: [(&str, [&[u8]; 5], u64, [&[u8]; 5]); 3] = [
+    let renamed: &[u8] = b"\x07\x1C\x03\x01g\x03\x01\x10wizer.initialize\0\0\x01h\0\0";
+    let table: [(&[&str], [&[u8]; 6], [&[u8]; 6], &str); 4] = [
         (
-            "one global",
-            [TYPES, FUNCTIONS, GLOBALS, EXPORTS, CODE],
-            3,
-            [TYPES, FUNCTIONS, GLOBALS_AFTER, EXPORTS_AFTER, CODE],
+            &["in.wasm", "--output", "out.wasm", "--report"],
+            [HEADER, TYPES, FUNCTIONS, GLOBALS, EXPORTS, CODE],
+            [HEADER, TYPES, FUNCTIONS, GLOBALS_AFTER, EXPORTS_AFTER, CODE],
+            "wizer: 3 ticks, 0 pages, 0 segments, 39 bytes\n",
         ),
         (
-            "a padded constant",
-            [TYPES, FUNCTIONS, GLOBALS, EXPORTS, padded],
-            3,
-            [TYPES, FUNCTIONS, GLOBALS_AFTER, EXPORTS_AFTER, padded],
+            &WORDS,
+            [HEADER, TYPES, FUNCTIONS, GLOBALS, EXPORTS, padded],
+            [
+                HEADER,
+                TYPES,
+                FUNCTIONS,
+                GLOBALS_AFTER,
+                EXPORTS_AFTER,
+                padded,
+            ],
+            "",
         ),
         (
-            "padded sizes",
-            [padded_types, FUNCTIONS, two_globals, three, sum],
-            7,
-            [TYPES, FUNCTIONS, two_globals_after, two, sum],
+            &WORDS,
+            [HEADER, padded_types, FUNCTIONS, two_globals, three, sum],
+            [HEADER, TYPES, FUNCTIONS, two_globals_after, two, sum],
+            "",
+        ),
+        (
+            &["-r", "h=f", "in.wasm", "--keep-init-func", "-o", "out.wasm"],
+            [HEADER, TYPES, FUNCTIONS, two_globals, three, sum],
+            [HEADER, TYPES, FUNCTIONS, two_globals_after, renamed, sum],
+            "",
         ),
     ];
-    for (name, pieces, ticks, after) in table {
-        let (outcome, files) = answer(alloc, &pieces)?;
+    for (words, before, after, line) in table {
+        let end = ended(alloc, words, &before)?;
         let output = joined(alloc, &after)?;
-        let Outcome::Done(report) = &outcome else {
-            panic!(rt; "{name}: not done");
-        };
-        assert_eq!(rt; report.ticks, ticks, "{name}");
-        assert_eq!(rt; report.bytes, output.len() as u64, "{name}");
-        assert!(rt; files.file("out.wasm") == Some(output.as_slice()), "{name}");
+        assert_eq!(rt; end.outcome.code(), 0, "{line}");
+        assert!(rt;
+            end.files.file("out.wasm") == Some(output.as_slice()),
+            "{line}"
+        );
+        assert!(rt; end.messages.text() == line.as_bytes(), "{line}");
     }
     Ok(())
 }
 
-// The published module with one of its sections replaced.
+// What is refused for its words: nothing is opened, and the line tells the word.
 #[test]
-fn other_modules_are_not_yet_built(rt: HostRuntime) -> Result<(), Fail> {
-    let alloc = rt.alloc();
-    let table: [(&str, usize, &[u8]); 12] = [
-        ("no such section", 0, b"\0\x01\0"),
+fn words_at_fault_are_refused(rt: HostRuntime) -> Result<(), Fail> {
+    let table: [(&[&str], &str); 8] = [
+        (&["--fuel", "x"], "wizer: word 1 is no number in range\n"),
+        (&["-o"], "wizer: word 0 needs a value\n"),
+        (&["--sampel", "3"], "wizer: word 0 is no known option\n"),
+        (&["a", "b"], "wizer: word 1 is one input too many\n"),
         (
-            "a section twice",
-            0,
-            b"\x01\x04\x01\x60\0\0\x01\x04\x01\x60\0\0",
-        ),
-        ("out of order", 0, b"\x03\x02\x01\0\x01\x04\x01\x60\0\0"),
-        ("a section less", 4, b""),
-        ("a byte more", 4, b"\x0A\x08\x01\x06\0\x41\x2A\x24\0\x0B\0"),
-        ("a byte less", 4, b"\x0A\x08\x01\x06\0\x41\x2A\x24\0"),
-        ("type i64", 2, b"\x06\x06\x01\x7E\x01\x42\0\x0B"),
-        ("a constant that is set", 2, b"\x06\x06\x01\x7F\0\x41\0\x0B"),
-        ("an operand left", 4, b"\x0A\x06\x01\x04\0\x41\x2A\x0B"),
-        (
-            "an operand missing",
-            4,
-            b"\x0A\x07\x01\x05\0\x41\x2A\x6A\x0B",
+            &["-f", "x", "--init-func", "y"],
+            "wizer: word 2 repeats an option\n",
         ),
         (
-            "a name twice",
-            3,
-            b"\x07\x1C\x03\x10wizer.initialize\0\0\x01g\x03\0\x01g\x03\0",
+            &["-r", "a"],
+            "wizer: word 1 is no rename of the form dst=src\n",
         ),
-        ("no function", 3, b"\x07\x14\x01\x10wizer.initialize\x03\0"),
+        (
+            &["in.wasm", "-o", "out.wasm", "-r", "a=b", "-r", "a=c"],
+            "wizer: word 6 renames to a name that was given before\n",
+        ),
+        (
+            &["-r", "a=b", "-r", "c=b"],
+            "wizer: word 3 renames an export that was renamed before\n",
+        ),
     ];
-    for (name, at, section) in table {
-        let mut pieces = [TYPES, FUNCTIONS, GLOBALS, EXPORTS, CODE];
-        if let Some(piece) = pieces.get_mut(at) {
-            *piece = section;
-        }
-        let (outcome, files) = answer(alloc, &pieces)?;
-        assert!(rt; matches!(&outcome, Outcome::NotYet), "{name}");
-        assert!(rt; files.file("out.wasm").is_none(), "{name}");
+    for (words, line) in table {
+        let end = ended(rt.alloc(), words, &[])?;
+        assert_eq!(rt; end.outcome.code(), 2, "{line}");
+        assert!(rt; end.messages.text() == line.as_bytes(), "{line}");
     }
     Ok(())
 }
 
+// What is refused for its input: no output is made.
 #[test]
-fn a_module_without_an_initialisation_is_refused(rt: HostRuntime) -> Result<(), Fail> {
-    let (outcome, files) = answer(
-        rt.alloc(),
-        &[TYPES, FUNCTIONS, GLOBALS, EXPORTS_AFTER, CODE],
-    )?;
-    let Outcome::Exports(ExportFault::NoInit { name }) = &outcome else {
-        panic!(rt; "not refused");
-    };
-    assert_eq!(rt; name.as_str(), "wizer.initialize");
-    assert_eq!(rt; outcome.code(), 1);
-    assert!(rt; files.file("out.wasm").is_none());
+fn other_inputs_are_refused(rt: HostRuntime) -> Result<(), Fail> {
+    let table: [(&[&[u8]], &str); 13] = [
+        (
+            &[],
+            "wizer: the input is no WebAssembly module of version 1\n",
+        ),
+        (
+            &[b"\0asm\x01\0\0"],
+            "wizer: the input is no WebAssembly module of version 1\n",
+        ),
+        (
+            &[HEADER],
+            "wizer: there is no export \"wizer.initialize\"\n",
+        ),
+        (
+            &[
+                HEADER,
+                TYPES,
+                FUNCTIONS,
+                GLOBALS,
+                EXPORTS,
+                b"\x0A\x08\x01\x06\0\x41\x2A\x24\0",
+            ],
+            "wizer: section 4 is outside this profile's grammar\n",
+        ),
+        (
+            &[HEADER, TYPES, FUNCTIONS, GLOBALS, EXPORTS],
+            "wizer: the counts of the sections don't agree\n",
+        ),
+        (
+            &[
+                HEADER,
+                TYPES,
+                FUNCTIONS,
+                GLOBALS,
+                EXPORTS,
+                b"\x0A\x06\x01\x04\0\x24\0\x0B",
+            ],
+            "wizer: invalid: code 0\n",
+        ),
+        (
+            &[
+                HEADER,
+                TYPES,
+                FUNCTIONS,
+                GLOBALS,
+                EXPORTS,
+                b"\x0A\x08\x01\x06\0\x41\0\x6A\x1A\x0B",
+            ],
+            "wizer: invalid: code 0\n",
+        ),
+        (
+            &[HEADER, b"\x02\x08\x01\x01e\x01m\x02\0\x01"],
+            "wizer: import 0 is no function\n",
+        ),
+        (
+            &[HEADER, b"\x05\x05\x01\0\x81\x80\x01"],
+            "wizer: the memories start with 16385 pages, more than 16384\n",
+        ),
+        (
+            &[HEADER, b"\x04\x0A\x02\x70\0\x80\xAD\xE2\x04\x70\0\x01"],
+            "wizer: the tables up to 1 start with 10000001 entries, more than 10000000\n",
+        ),
+        (
+            &[
+                HEADER,
+                TYPES,
+                FUNCTIONS,
+                b"\x0A\x08\x01\x06\x01\xD1\x86\x03\x7F\x0B",
+            ],
+            "wizer: function 0 has 50001 locals, more than 50000\n",
+        ),
+        (
+            &[
+                HEADER,
+                b"\x06\x06\x01\x7F\x01\x41\0\x0B",
+                b"\x07\x14\x01\x10wizer.initialize\x03\0",
+            ],
+            "wizer: the export \"wizer.initialize\" is no function\n",
+        ),
+        (
+            &[
+                HEADER,
+                TYPES,
+                FUNCTIONS,
+                EXPORTS,
+                b"\x0A\x05\x01\x03\0\0\x0B",
+            ],
+            "wizer: this form of input isn't built yet\n",
+        ),
+    ];
+    for (pieces, line) in table {
+        let end = ended(rt.alloc(), &WORDS, pieces)?;
+        assert_eq!(rt; end.outcome.code(), 1, "{line}");
+        assert!(rt; end.files.file("out.wasm").is_none(), "{line}");
+        assert!(rt; end.messages.text() == line.as_bytes(), "{line}");
+    }
     Ok(())
 }
 
+// What is refused for what the words ask of a module that goes through by itself, or of a sample.
 #[test]
-fn other_words_are_not_yet_built(rt: HostRuntime) -> Result<(), Fail> {
-    let alloc = rt.alloc();
-    let table: [(&str, &[&str]); 6] = [
-        ("no words", &[]),
-        ("no output", &["in.wasm"]),
-        ("no path of an output", &["in.wasm", "-o"]),
-        ("another option", &["in.wasm", "--output", "out.wasm"]),
-        ("standard input", &["-", "-o", "out.wasm"]),
-        ("standard output", &["in.wasm", "-o", "-"]),
+fn other_settings_are_refused(rt: HostRuntime) -> Result<(), Fail> {
+    let table: [(&[&str], &str); 5] = [
+        (
+            &["in.wasm", "-r", "x=nosuch"],
+            "wizer: there is no export \"nosuch\" to rename\n",
+        ),
+        (
+            &["in.wasm", "-r", "x=wizer.initialize"],
+            "wizer: the export \"wizer.initialize\" leaves and can't be renamed\n",
+        ),
+        (
+            &["in.wasm", "--reactor"],
+            "wizer: there is no export \"_initialize\"\n",
+        ),
+        (
+            &["in.wasm", "--fuel", "3"],
+            "wizer: this form of input isn't built yet\n",
+        ),
+        (
+            &["--sample", "2"],
+            "wizer: this form of input isn't built yet\n",
+        ),
     ];
-    for (name, words) in table {
-        let mut files = MemFiles::new(alloc, Vec::new(alloc), 16);
-        files.put_file(
-            "in.wasm",
-            joined(alloc, &[TYPES, FUNCTIONS, GLOBALS, EXPORTS, CODE])?,
-        )?;
-        let mut messages = MemSink::new(alloc, None);
-        let outcome = wizer(alloc, &texts(alloc, words)?, &mut files, &mut messages);
-        assert!(rt; matches!(&outcome, Outcome::NotYet), "{name}");
-        assert!(rt; files.file("out.wasm").is_none(), "{name}");
+    for (words, line) in table {
+        let pieces = [HEADER, TYPES, FUNCTIONS, GLOBALS, EXPORTS, CODE];
+        let end = ended(rt.alloc(), words, &pieces)?;
+        assert_eq!(rt; end.outcome.code(), 1, "{line}");
+        assert!(rt; end.files.stdout().is_empty(), "{line}");
+        assert!(rt; end.messages.text() == line.as_bytes(), "{line}");
     }
     Ok(())
 }
@@ -206,10 +320,10 @@ fn a_device_that_fails_is_named(rt: HostRuntime) -> Result<(), Fail> {
         (CallKind::Close, 1, Side::Output, Some(39)),
     ];
     let words = texts(alloc, &WORDS)?;
-    let input = joined(alloc, &[TYPES, FUNCTIONS, GLOBALS, EXPORTS, CODE])?;
+    let input = joined(alloc, &[HEADER, TYPES, FUNCTIONS, GLOBALS, EXPORTS, CODE])?;
     let output = joined(
         alloc,
-        &[TYPES, FUNCTIONS, GLOBALS_AFTER, EXPORTS_AFTER, CODE],
+        &[HEADER, TYPES, FUNCTIONS, GLOBALS_AFTER, EXPORTS_AFTER, CODE],
     )?;
     for (kind, nth, side, length) in table {
         let mut files = MemFiles::new(alloc, Vec::new(alloc), 16);
@@ -235,9 +349,21 @@ fn an_input_that_is_missing_or_too_long_makes_no_output(rt: HostRuntime) -> Resu
     let missing = wizer(alloc, &words, &mut files, &mut messages);
     assert!(rt; matches!(&missing, Outcome::InputFault));
     assert_eq!(rt; missing.code(), 3);
+    assert!(rt; messages.text() == "wizer: the input can't be read\n".as_bytes());
     files.put_file("in.wasm", vec![in alloc; 0u8; INPUT_LIMIT + 1]?)?;
     let long = wizer(alloc, &words, &mut files, &mut messages);
     assert!(rt; matches!(&long, Outcome::InputTooLong));
     assert!(rt; files.file("out.wasm").is_none());
+    Ok(())
+}
+
+#[test]
+fn messages_that_fail_change_no_outcome(rt: HostRuntime) -> Result<(), Fail> {
+    let alloc = rt.alloc();
+    let mut files = MemFiles::new(alloc, joined(alloc, &[HEADER])?, 16);
+    let mut messages = MemSink::new(alloc, Some(1));
+    let outcome = wizer(alloc, &[], &mut files, &mut messages);
+    assert!(rt; matches!(&outcome, Outcome::Exports(_)));
+    assert!(rt; messages.text().is_empty());
     Ok(())
 }

@@ -1,23 +1,35 @@
 //! The top call.
 
-ghost use Rattle.std.specs.Prelude.{◌≡◌, Some};
-ghost use Rattle.wz_io.specs.World.{World, Said, File};
-ghost use Rattle.wz_top.specs.Asked.{Asks, Asked, Ran, OnDone, OnRefusal, OnInputFault, OnOutputFault, OnUnfinished, Stays, IsTold, IsAnswer, IsComplete};
-ghost use Rattle.wz_top.specs.Words.{names};
+ghost use Rattle.std.specs.Prelude.{◌≡◌, ◌≢◌, ◌+◌, ◌≤◌, ◌⊎◌, Ok, AllPairs};
+ghost use Rattle.wz_io.specs.World.{World, Said, name_of};
+ghost use Rattle.wz_io.specs.Reading.{input_limit};
+ghost use Rattle.wz_words.specs.Settings.{settings_of};
+ghost use Rattle.wz_words.specs.Faults.{settings};
+ghost use Rattle.wz_top.specs.Asked.{Asks, Asked, Ran, OnDone, OnRefusal, OnInputFault};
+ghost use Rattle.wz_top.specs.Asked.{OnOutputFault, OnUnfinished, Stays, IsTold, IsAnswer};
+ghost use Rattle.wz_top.specs.Asked.{IsComplete};
+ghost use Rattle.wz_top.specs.Devices.{IsSmallSample};
+ghost use Rattle.wz_top.specs.Saying.{SaysAll, SaysFirst};
+ghost use Rattle.wz_top.specs.Texts.{text};
+ghost use Rattle.wz_top.specs.Words.{is_reported, wants_report, is_sample, output_name};
 
 use crate::Outcome;
 use crate::deliver::deliver;
-use crate::fetch::fetch;
+use crate::fetch::obtain;
+use crate::laws::bytes_ask_once;
+use crate::refusals::usage_outcome;
+use crate::texts::print_outcome;
 use crate::turn::turn;
-use crate::words::read_words;
 use std::alloc::Global;
+use wz_exports::laws::renames_differ;
 use wz_io::{FileName, Files, OpenFault, ReadAll, Sink};
 use wz_types::Text;
+use wz_words::{InputFrom, OutputTo, Settings, read_words};
 
-/// Pre-initialises the module that the words name, and writes the module that starts in the
-/// state that was reached.
+/// Pre-initialises the module that the words name, writes the module that starts in the state
+/// that was reached, and puts the line that tells how the run ended.
 ///
-/// Nothing is written before the run succeeded. Nothing is put into `messages` yet.
+/// Nothing is written before the run succeeded. A sink that fails changes no outcome.
 pub fn wizer<F: Files, E: Sink>(
     alloc: Global,
     words: &[Text],
@@ -30,48 +42,108 @@ pub fn wizer<F: Files, E: Sink>(
 
     // A refusal comes only where it is asked for, and what is asked for is answered.
     ensures refusal { OnRefusal result (Asks words.now (F.world files.old).told) }
-    ensures answer { IsTold (names words.now) (F.world files.old).told →
+    ensures answer { IsTold (settings words.now) (F.world files.old).told →
         (asked : Asked) → Asks words.now (F.world files.old).told asked → IsAnswer asked result }
 
     // A fault comes only where that device failed, and for the output only where one is asked for.
-    ensures input_fault { OnInputFault result (names words.now)
+    ensures input_fault { OnInputFault result (settings words.now)
         (F.world files.old) (F.world files.new) }
     ensures output_fault { OnOutputFault result (Asks words.now (F.world files.old).told)
         (F.world files.old) (F.world files.new) }
 
     // What stays, and what an output holds that wasn't finished.
-    ensures stays { Stays result (F.world files.old) (F.world files.new) }
+    ensures stays { Stays result (settings words.now) (F.world files.old) (F.world files.new) }
     ensures unfinished { OnUnfinished result (Asks words.now (F.world files.old).told)
         (F.world files.old) (F.world files.new) }
 
     // What can be done is done, but for want of memory.
-    ensures complete { IsTold (names words.now) (F.world files.old).told →
-        IsComplete result (names words.now) (Asks words.now (F.world files.old).told)
+    ensures complete { IsTold (settings words.now) (F.world files.old).told →
+        IsComplete result (settings words.now) (Asks words.now (F.world files.old).told)
         (F.world files.old) (F.world files.new) }
-    ensures silent { E.said messages.new ≡ E.said messages.old }
+    ensures reads { (F.world files.new).reads ≤ (F.world files.old).reads + input_limit + 2 }
+
+    // The line of the outcome, or some first bytes of it where the sink failed.
+    ensures messages { let line = text result (is_reported (settings words.now)) in
+        SaysAll line (E.said messages.old) (E.said messages.new)
+        ⊎ SaysFirst line (E.said messages.old) (E.said messages.new) }
 {
-    let Some((input, output)) = read_words(words) else {
-        return Outcome::NotYet;
+    let (outcome, report) = run(alloc, words, files);
+    say(&outcome, report, messages);
+    outcome
+}
+
+/// Puts the line of the outcome; where that fails, nothing is left to be told.
+fn say<E: Sink>(outcome: &Outcome, report: bool, messages: &mut E)
+    ensures { SaysAll (text outcome.now report) (E.said messages.old) (E.said messages.new)
+        ⊎ SaysFirst (text outcome.now report) (E.said messages.old) (E.said messages.new) }
+{
+    let _all = print_outcome(outcome, report, messages);
+}
+
+/// The outcome, and whether its report is to be printed.
+fn run<F: Files>(alloc: Global, words: &[Text], files: &mut F) -> (Outcome, bool)
+    ensures ran { Ran result.0 (settings words.now) (F.world files.old) (F.world files.new) }
+    ensures report { text result.0 result.1 ≡ text result.0 (is_reported (settings words.now)) }
+    ensures reads { (F.world files.new).reads ≤ (F.world files.old).reads + input_limit + 2 }
+{
+    // For the proof: no two renames are to one name.
+    renames_differ();
+    let settings = match read_words(alloc, words) {
+        Ok(settings) => settings,
+        Err(fault) => return (usage_outcome(fault), false),
     };
-    carry_out(alloc, input, output, files)
+    let report = wants_report(&settings);
+    (carry_out(alloc, &settings, files), report)
+}
+
+/// Whether the report is printed: where it is asked for, and always for a sample.
+fn wants_report(settings: &Settings) -> bool
+    ensures { result ≡ wants_report (settings_of settings.now) }
+{
+    settings.report || is_sample(&settings.input)
+}
+
+fn is_sample(input: &InputFrom) -> bool
+    ensures { result ≡ is_sample input.now }
+{
+    match input {
+        InputFrom::Standard => false,
+        InputFrom::Path(_) => false,
+        InputFrom::Sample(_) => true,
+    }
+}
+
+/// The name of the output.
+fn file_name(output: &OutputTo) -> FileName<'_>
+    ensures { name_of result ≡ output_name output.now }
+{
+    match output {
+        OutputTo::Standard => FileName::Standard,
+        OutputTo::Path(path) => FileName::Path(path.as_str()),
+    }
 }
 
 /// The steps from opening the input to closing the output.
-fn carry_out<F: Files>(alloc: Global, input: &str, output: &str, files: &mut F) -> Outcome
-    ensures ran { Ran result (Some (record { input = File input.now; output = File output.now }))
+fn carry_out<F: Files>(alloc: Global, settings: &Settings, files: &mut F) -> Outcome
+    requires small { IsSmallSample settings.now.input }
+    requires renames { AllPairs (λ x y. x.dst ≢ y.dst) (settings_of settings.now).renames }
+    ensures ran { Ran result (Ok (settings_of settings.now))
         (F.world files.old) (F.world files.new) }
+    ensures reads { (F.world files.new).reads ≤ (F.world files.old).reads + input_limit + 2 }
 {
-    let bytes = match fetch(alloc, files, FileName::Path(input)) {
+    // For the proof: what is found is what was asked for.
+    bytes_ask_once();
+    let bytes = match obtain(alloc, files, &settings.input) {
         Ok(bytes) => bytes,
         Err(ReadAll::Failed) => return Outcome::InputFault,
         Err(ReadAll::TooLong) => return Outcome::InputTooLong,
         Err(ReadAll::NoMemory) => return Outcome::NoMemory,
     };
-    let (report, right) = match turn(alloc, &bytes) {
+    let (report, right) = match turn(alloc, &bytes, settings) {
         Ok(made) => made,
         Err(refusal) => return refusal,
     };
-    match deliver(files, FileName::Path(output), &right) {
+    match deliver(files, file_name(&settings.output), &right) {
         Ok(()) => Outcome::Done(report),
         Err(OpenFault::Failed) => Outcome::OutputFault,
         Err(OpenFault::NoMemory) => Outcome::NoMemory,

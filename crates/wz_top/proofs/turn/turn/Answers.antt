@@ -1,38 +1,32 @@
-use Rattle.std.proofs.Common.{◌≡◌, List, subst, sym, refl}
-use Rattle.std.specs.Prelude.{Any, Option, Some, None, IsNone, IfSome, Vec}
-use Rattle.std.specs.declared.alloc.Global.{Global as Heap}
-use Rattle.wz_top.specs.declared.first_grammar.Global.{Global}
-use Rattle.wz_top.specs.FirstViews.{module_view}
-use Rattle.wz_top.specs.FirstRun.{initialize}
-use Rattle.wz_top.specs.FirstWriter.{output, report}
-use Rattle.wz_top.specs.declared.first_grammar.Export.{Export}
-use Rattle.wz_top.proofs.VerdictLaws.{not_read, not_going, no_init, gives, init_by, no_init_by, absent, present}
+use Rattle.std.proofs.Common.{subst, sym}
+use Rattle.wz_module.specs.Meaning.{module_of}
+use Rattle.wz_words.specs.Settings.{settings_of}
+use Rattle.wz_top.specs.Verdict.{IsRefusedBy, RunGives}
+use Rattle.wz_top.specs.declared.outcome.Outcome.{Outcome}
+use Rattle.wz_top.proofs.OutsideLaws.{names_differ}
+use Rattle.wz_top.proofs.TurnLemmas.{export_refused, run_refused, run_gives, if_none, if_some}
 use Rattle.wz_top.proofs.turn.turn.Goals as goal
 
-is_none : (o : Option (Vec Global Heap)) → o ≡ None → IsNone o
-is_none o e = subst (λ (x : Option (Vec Global Heap)). IsNone x) (sym e) refl
+pub returns-in-Err-clause-refused : goal.returns-in-Err-clause-refused
+returns-in-Err-clause-refused c = c.in-Err.ensures.refused (settings_of c.args.settings.now)
 
-goes_of : (o : Option (Vec Global Heap)) (v : Vec Global Heap) (P : List Global → Type 0) → o ≡ Some v → IfSome o (λ w. P w.items) → P v.items
-goes_of o v P e h = subst (λ (x : Option (Vec Global Heap)). IfSome x (λ w. P w.items)) e h
+pub keep-requires-clause-names : goal.keep-requires-clause-names
+keep-requires-clause-names c = names_differ (module_of c.in-Ok.accepted) c.in-Ok.ensures.accepted.valid
 
-pub returns-in-Err-Bad-clause-refused : goal.returns-in-Err-Bad-clause-refused
-returns-in-Err-Bad-clause-refused c = not_read c.args.bytes.now (c.in-Err-Bad.ensures.bad (let is = c.in-Err-Bad.field-0-is in cc))
+pub returns-in-Err-keep-clause-refused : goal.returns-in-Err-keep-clause-refused
+returns-in-Err-keep-clause-refused c =
+    let s = settings_of c.args.settings.now in
+    subst (λ (o : Outcome). IsRefusedBy s c.args.bytes.now o) (sym c.export_outcome.ensures)
+    (export_refused s c.args.bytes.now (module_of c.in-Ok.accepted) c.in-Err-keep.fault c.in-Ok.ensures.accepted c.in-Err-keep.ensures.fault)
+
+pub returns-in-Ok-Some-clause-made : goal.returns-in-Ok-Some-clause-made
+returns-in-Ok-Some-clause-made c =
+    let s = settings_of c.args.settings.now in
+    let made = c.in-Ok-Some.made in
+    run_gives s c.args.bytes.now (module_of c.in-Ok.accepted) c.in-Ok-keep.kept made.0 made.1.items c.in-Ok.ensures.accepted c.in-Ok-keep.ensures.kept
+    (if_some (λ r. RunGives s c.args.bytes.now c.in-Ok-keep.kept r.0 r.1.items) c.in-Ok-Some.field-0 made c.in-Ok-Some.field-0-is c.in-Ok-Some.ensures.made)
 
 pub returns-in-Ok-None-clause-refused : goal.returns-in-Ok-None-clause-refused
-returns-in-Ok-None-clause-refused c = not_going c.args.bytes.now (module_view c.in-Ok.module) c.in-Ok.ensures.found (c.in-Ok-None.ensures.none (let is = c.in-Ok-None.field-0-is in is_none c.in-Ok-None.field-0 is))
-
-pub returns-then-not-has_initialize-clause-refused : goal.returns-then-not-has_initialize-clause-refused
-returns-then-not-has_initialize-clause-refused c =
-    no_init c.args.bytes.now (module_view c.in-Ok.module) c.in-Ok-Some.reached.items c.no_initialize.result c.in-Ok.ensures.found (goes_of c.in-Ok-Some.field-0 c.in-Ok-Some.reached _ c.in-Ok-Some.field-0-is c.in-Ok-Some.ensures.reached)
-    (no_init_by c.in-Ok.module (λ any. absent c.has_initialize.result _ c.has_initialize.ensures c.if-not-has_initialize.true
-    (subst (λ (xs : List Export). Any (λ e. e.name.now ≡ initialize) xs) (sym c.deref.ensures.value) any)))
-    c.no_initialize.ensures.answer
-
-pub returns-in-Ok-finish-clause-made : goal.returns-in-Ok-finish-clause-made
-returns-in-Ok-finish-clause-made c =
-    gives c.args.bytes.now (module_view c.in-Ok.module) c.in-Ok-Some.reached.items c.in-Ok-finish.made.0 c.in-Ok-finish.made.1.items c.in-Ok.ensures.found
-    (goes_of c.in-Ok-Some.field-0 c.in-Ok-Some.reached _ c.in-Ok-Some.field-0-is c.in-Ok-Some.ensures.reached)
-    (init_by c.in-Ok.module (subst (λ (xs : List Export). Any (λ e. e.name.now ≡ initialize) xs) c.deref.ensures.value
-    (present c.has_initialize.result _ c.has_initialize.ensures c.if-not-has_initialize.false)))
-    (subst (λ (gs : List Global). c.in-Ok-finish.made.0 ≡ report (module_view c.in-Ok.module) gs) c.deref-2.ensures.value c.in-Ok-finish.ensures.report)
-    (subst (λ (gs : List Global). c.in-Ok-finish.made.1.items ≡ output (module_view c.in-Ok.module) gs) c.deref-2.ensures.value c.in-Ok-finish.ensures.output)
+returns-in-Ok-None-clause-refused c =
+    run_refused (settings_of c.args.settings.now) c.args.bytes.now (module_of c.in-Ok.accepted) c.in-Ok-keep.kept c.in-Ok.ensures.accepted
+    c.in-Ok-keep.ensures.kept (c.in-Ok-None.ensures.none (if_none c.in-Ok-None.field-0 c.in-Ok-None.field-0-is))

@@ -1,0 +1,12 @@
+pub mod BehindLemmas
+pub mod SegmentLemmas
+pub mod ConstantLemmas
+pub mod ModuleLemmas
+pub mod AllocationLemmas
+pub mod FreshLemmas
+pub mod FineLemmas
+pub mod LeftLemmas
+pub mod FirstLemmas
+pub mod LawLemmas
+pub mod Steps
+pub mod RunLemmas

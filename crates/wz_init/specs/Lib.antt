@@ -1,0 +1,11 @@
+pub mod Functions
+pub mod States
+pub mod Constants
+pub mod Allocation
+pub mod Instances
+pub mod Instantiation
+pub mod Plain
+pub mod Run
+pub mod Ready
+pub mod Reached
+pub mod Laws
