@@ -23,3 +23,4 @@ pub mod BodyLemmas
 pub mod ContextLemmas
 pub mod StartLemmas
 pub mod StateLemmas
+pub mod TestLemmas
