@@ -22,4 +22,5 @@ pub mod SlotLemmas
 pub mod BodyLemmas
 pub mod ContextLemmas
 pub mod StartLemmas
+pub mod StateLemmas
 pub mod TestLemmas

@@ -1,7 +1,7 @@
 -- When the output is a valid module (section 3.4.10 of the WebAssembly Core Specification 2.0) within the tool's profile: said of modules
 -- and of what was recorded of a state, without bytes.
-use Rattle.std.specs.Prelude.{◌≡◌, ◌≢◌, ℕ, ◌≤◌, List, length, map, Ok, None, IfSome, AllPairs}
-use Rattle.std.specs.List.{All, AllZip, sum}
+use Rattle.std.specs.Prelude.{◌≡◌, ◌≢◌, ℕ, ◌≤◌, List, length, map, slice_get, Ok, Some, None, IfSome, AllPairs}
+use Rattle.std.specs.List.{All, AllZip, sum, sum_by}
 use Rattle.wz_types.specs.declared.types.MemType.{MemType}
 use Rattle.wz_types.specs.declared.value.Reference.TheVariants.{Foreign}
 use Rattle.wz_types.specs.declared.value.Value.{Value}
@@ -12,7 +12,7 @@ use Rattle.wz_module.specs.Module.{Module}
 use Rattle.wz_valid.specs.Indices.{all_functions}
 use Rattle.wz_valid.specs.Validity.{IsValid}
 use Rattle.wz_valid.specs.Profile.{pages_limit, IsInProfile}
-use Rattle.wz_store.specs.State.{Memory, pages_of}
+use Rattle.wz_store.specs.State.{Global, Memory, pages_of}
 use Rattle.wz_words.specs.Settings.{Settings}
 use Rattle.wz_snapshot.specs.Recorded.{RecordedState}
 use Rattle.wz_exports.specs.Kept.{KeptExports, kept}
@@ -43,7 +43,22 @@ pub record HasTypesOf (m : Module) (r : RecordedState) (memories : List Memory) 
   pub pages : r.pages ≡ map pages_of memories
   pub together : sum r.pages ≤ pages_limit
 
+-- What a state has of these types: its globals' and memories' own, values that fit them, and sizes within the maxima.
+pub record AreOfTypes (m : Module) (globals : List Global) (memories : List Memory) : Type 0 where
+  pub kinds : map (λ global. global.type) globals ≡ map (λ global. global.kind) m.globals
+  pub fitting : (index : ℕ) (global : Global) → slice_get globals index ≡ Some global
+      → Fits global.content global.type.value (length (all_functions m)) (length m.types)
+  pub own : (index : ℕ) (global : Global) → slice_get globals index ≡ Some global → IsNotForeign global.content
+  pub maxima : map (λ memory. memory.maximum) memories ≡ map (λ memory. memory.limits.max) m.memories
+  pub sizes : (index : ℕ) (memory : Memory) → slice_get memories index ≡ Some memory → IfSome memory.maximum (λ max. pages_of memory ≤ max)
+  pub together : sum_by pages_of memories ≤ pages_limit
+
 -- ---- the laws
+
+-- what is recorded of such globals and memories has the module's types
+abbrev pub StateHasTypes : Type 0
+StateHasTypes = (m : Module) (r : RecordedState) (globals : List Global) (memories : List Memory)
+    → r.globals ≡ map (λ global. global.content) globals → r.pages ≡ map pages_of memories → AreOfTypes m globals memories → HasTypesOf m r memories
 
 -- the renames differ in the names that they give
 abbrev pub GivesNamesOnce : Settings → Type 0

@@ -3,7 +3,7 @@
 
 ghost use Rattle.wz_rewrite.specs.Laws.{PiecesAreOutput, PiecesAreChosen, PiecesAreKept};
 ghost use Rattle.wz_rewrite.specs.Laws.{OutputSpells, InputSpellsElements, InputIsInOrder};
-ghost use Rattle.wz_rewrite.specs.ValidOutput.{OutputIsValid, HasNoStartSection};
+ghost use Rattle.wz_rewrite.specs.ValidOutput.{StateHasTypes, OutputIsValid, HasNoStartSection};
 
 /// The pieces, with each range read from its memory, are the output's bytes; their ranges are the
 /// chosen ones; and what they have of the input is just the contents that stay.
@@ -34,3 +34,10 @@ pub fn output_is_valid()
     // each function that a body names is named elsewhere in the output, or declared anew
     wz_exports::laws::references_are_found();
 }
+
+/// What is recorded of a state is what a valid output asks for, where the state's globals and
+/// memories have the module's types: values that fit, none of them the host's, and sizes within
+/// the maxima and the profile.
+pub fn state_has_types()
+    ensures { StateHasTypes }
+{}
