@@ -48,3 +48,4 @@ pub mod Calling
 pub mod Straight
 pub mod Advance
 pub mod Running
+pub mod PlainTurns
