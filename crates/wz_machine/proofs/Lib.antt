@@ -27,3 +27,4 @@ pub mod StraightLemmas
 pub mod SiteLemmas
 pub mod RunLemmas
 pub mod GrowAskLemmas
+pub mod TurnLemmas

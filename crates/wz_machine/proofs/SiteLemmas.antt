@@ -20,6 +20,7 @@ use Rattle.wz_machine.specs.Frames.{frame_count, local_count}
 use Rattle.wz_machine.specs.Contexts.{FrameContent, Layer, LabelLayer, FrameLayer, in_layer, term_in}
 use Rattle.wz_machine.specs.Flat.{Opened, FlatStacks, OpenKind, OpenFunction, OpenBlock, OpenLoop, locals_in, own_values, flat_term, content_of, layers_in, results_of, HasPlaces, HasLocals, IsNested}
 use Rattle.wz_machine.specs.Stacks.{EntryKind, CallEntry, BlockEntry, LoopEntry, Entry, StackParts, open_kind, opened_of, flat_of, stacks_term, HasRoom, IsKindIn, AreStacked, IsStacked}
+use Rattle.wz_machine.specs.declared.plain.Plain.TheVariants.{Went}
 use Rattle.wz_machine.specs.PlainSteps.{used, Site, site, step_at, HoldsNone, WentOn, Yielded, SetLocal, SetsOneLocal, PlainReply}
 use Rattle.wz_machine.specs.Straight.{changes_table, Point, point, GoesOn, RunsTo}
 use Rattle.wz_machine.specs.declared.run.Places.{Places}
@@ -125,6 +126,7 @@ pub record HasStepped (bodies : List BodyParts) (s : StackParts) (below between 
   pub change : Change
   pub goes : step (state_of bodies p.at.store) (stacks_term (stacks_at s below between p)) ≡ Next change (stacks_term (stacks_at s below between q))
   pub state : state_of bodies q.at.store ≡ applied change (state_of bodies p.at.store)
+  pub changed : q.at.store ≡ applied change p.at.store
   pub split : IsSplit s below between q
 
 went-on : (bodies : List BodyParts) (s : StackParts) (below between : List Value) (p q : Point) (instr : Instr) → IsSplit s below between p
@@ -141,6 +143,7 @@ went-on bodies s below between p q instr h first (Yielded change yields store lo
       change = change;
       goes = plain_step (state_of bodies p.at.store) m (leaf_in s.top.body instr) (code_in s.top.body q.rest) change (values_at below between q) first does placed front;
       state = ap (λ (x : StateOf Function). state_of bodies x) store ∙ change_reaches_state bodies p.at.store change;
+      changed = store;
       split = kept;
     }
 went-on bodies s below between p q instr h first (SetLocal sets store) =
@@ -164,6 +167,7 @@ went-on bodies s below between p q instr h first (SetLocal sets store) =
       goes = local_step (state_of bodies p.at.store) m (leaf_in s.top.body instr) (code_in s.top.body q.rest) (values_at below between q) place sets.value first does placed
           (nested s.outer (record s.top { rest = p.rest }) (stacked-moved s.top p.rest s.outer h.stacked)) (omega arith) (omega (arith, sets.found, h.locals)) front;
       state = ap (λ (x : StateOf Function). state_of bodies x) store;
+      changed = store;
       split = kept;
     }
 
@@ -270,7 +274,7 @@ abbrev pub places_of : Entry → Places
 places_of top = record { locals_at = top.locals_at; locals_end = top.locals_end; height = top.height }
 
 -- the first values, by their parts
-values-split : (from to height n : ℕ) (values : List Value) → from ≤ to → to ≤ height
+pub values-split : (from to height n : ℕ) (values : List Value) → from ≤ to → to ≤ height
     → take (height + n) values ≡ take from values ++ (range_of values from (to - from) ++ (range_of values to (height - to) ++ take n (drop height values)))
 values-split from to height n values first second =
     let own : List Value = take n (drop height values) in
@@ -285,6 +289,68 @@ values-split from to height n values first second =
 
 range-size : (values : List Value) (from count : ℕ) → from + count ≤ length values → length (range_of values from count) ≡ count
 range-size values from count fits = length-take-le count (drop from values) (omega (arith, length-drop from values, fits))
+
+-- the split of stacks whose values have room behind them, before an instruction and after it
+split-of : (s : StackParts) (values : List Value) (have : ℕ) (store : StateOf Function) → IsStacked s → have ≤ length values → s.top.height ≤ have
+    → IsSplit s (take s.top.locals_at values) (range_of values s.top.locals_end (s.top.height - s.top.locals_end))
+    (point s.top.rest (have - s.top.height) (site_of (places_of s.top) values store))
+split-of s values have store stacked fits own =
+    let from : ℕ = s.top.locals_at in
+    let to : ℕ = s.top.locals_end in
+    let height : ℕ = s.top.height in
+    record {
+      stacked = stacked.stacked;
+      room = stacked.room;
+      under = length-take-le from values (omega (arith, stacked.room.locals, stacked.room.height, own, fits));
+      locals = range-size values from (to - from) (omega (arith, stacked.room.locals, stacked.room.height, own, fits));
+      middle = range-size values to (height - to) (omega (arith, stacked.room.height, own, fits));
+    }
+
+values-before : (s : StackParts) (values : List Value) (have : ℕ) (store : StateOf Function) → IsStacked s → take have values ≡ s.values → s.top.height ≤ have
+    → values_at (take s.top.locals_at values) (range_of values s.top.locals_end (s.top.height - s.top.locals_end))
+    (point s.top.rest (have - s.top.height) (site_of (places_of s.top) values store)) ≡ s.values
+values-before s values have store stacked held own =
+    sym (values-split s.top.locals_at s.top.locals_end s.top.height (have - s.top.height) values stacked.room.locals stacked.room.height)
+    ∙ ap (λ k. take k values) (omega (arith, own)) ∙ held
+
+values-after : (s : StackParts) (values new : List Value) (rest : List Instr) (n : ℕ) (after : StateOf Function) → IsStacked s → SameApart (places_of s.top) values new
+    → values_at (take s.top.locals_at values) (range_of values s.top.locals_end (s.top.height - s.top.locals_end)) (point rest n (site_of (places_of s.top) new after))
+    ≡ take (s.top.height + n) new
+values-after s values new rest n after stacked apart =
+    let from : ℕ = s.top.locals_at in
+    let to : ℕ = s.top.locals_end in
+    let height : ℕ = s.top.height in
+    let between : List Value = range_of values to (height - to) in
+    ap (λ (vs : List Value). vs ++ (range_of new from (to - from) ++ (between ++ take n (drop height new)))) (sym apart.below)
+    ∙ ap (λ (vs : List Value). take from new ++ (range_of new from (to - from) ++ (vs ++ take n (drop height new)))) (sym apart.between)
+    ∙ sym (values-split from to height n new stacked.room.locals stacked.room.height)
+
+-- what one instruction came to
+pub record HasWent (bodies : List BodyParts) (s : StackParts) (store after : StateOf Function) (now : StackParts) : Type 0 where
+  pub change : Change
+  pub goes : step (state_of bodies store) (stacks_term s) ≡ Next change (stacks_term now)
+  pub changed : after ≡ applied change store
+  pub stacked : IsStacked now
+
+pub went_lands : (bodies : List BodyParts) (s : StackParts) (values new : List Value) (have n : ℕ) (store after : StateOf Function) (instr : Instr) (rest : List Instr)
+    → IsStacked s → take have values ≡ s.values → have ≤ length values → s.top.height ≤ have → SameApart (places_of s.top) values new → s.top.rest ≡ instr ∷ rest
+    → PlainReply (Went n) s.top.body instr (have - s.top.height) (site_of (places_of s.top) values store) (site_of (places_of s.top) new after)
+    → HasWent bodies s store after (record { top = record s.top { rest = rest }; outer = s.outer; values = take (s.top.height + n) new })
+went_lands bodies s values new have n store after instr rest stacked held fits own apart first reply =
+    let below : List Value = take s.top.locals_at values in
+    let between : List Value = range_of values s.top.locals_end (s.top.height - s.top.locals_end) in
+    let p : Point = point s.top.rest (have - s.top.height) (site_of (places_of s.top) values store) in
+    let q : Point = point rest n (site_of (places_of s.top) new after) in
+    let few : IsFew s = record { few = stacked.few; small = stacked.small } in
+    let split = split-of s values have store stacked fits own in
+    let r : HasStepped bodies s below between p q = went-on bodies s below between p q instr split (leaf-first s.top.body instr s.top.rest rest reply.0 first) (reply.2 bodies) in
+    let P : List Value → List Value → Type 0 = λ vs ws. HasWent bodies (record { top = s.top; outer = s.outer; values = vs }) store after
+    (record { top = record s.top { rest = rest }; outer = s.outer; values = ws }) in
+    let at-parts : P (values_at below between p) (values_at below between q) =
+    record { change = r.change; goes = r.goes; changed = r.changed; stacked = stacked-at s below between q few r.split } in
+    let half : P s.values (values_at below between q) =
+    subst (λ (vs : List Value). P vs (values_at below between q)) (values-before s values have store stacked held own) at-parts in
+    subst (λ (ws : List Value). P s.values ws) (values-after s values new rest n after stacked apart) half
 
 -- what a run came to
 pub record HasRun (bodies : List BodyParts) (s : StackParts) (made : ℕ) (store after : StateOf Function) (now : StackParts) : Type 0 where

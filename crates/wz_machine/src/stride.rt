@@ -13,6 +13,7 @@ ghost use Rattle.wz_machine.specs.Asks.{AskTurned};
 ghost use Rattle.wz_machine.specs.Strides.{Strode};
 
 use crate::asking::AskTurn;
+use crate::plain::Plain;
 use crate::stacks::Stacks;
 use crate::standing::Pending;
 use crate::turn::Turn;
@@ -186,6 +187,14 @@ impl<'m> Stacks<'m> {
         let Some((instr, rest)) = split(top.rest) else {
             return Ok(of_turn(self.finish()));
         };
-        Err(AllocError)
+        match self.plain_turn(&instr, rest, store)? {
+            Plain::Went(_) => Ok(Stride::Went),
+            Plain::Trapped(kind) => Ok(Stride::Trapped(kind)),
+            Plain::Stuck => Ok(Stride::Stuck),
+            Plain::Special => {
+                let stride = self.special(instr, rest, bodies, store)?;
+                Ok(stride)
+            }
+        }
     }
 }
