@@ -253,7 +253,7 @@ left-parts i s n label base have count parent outer values e len lt cut is moved
     record {
       parent = ap (λ (es : List Entry). slice_get es label) (sym around) ∙ here;
       outer = ap (λ (os : List Opened). reverse (map entry_of os)) (cut ∙ ap (λ k. take k i.outer.items) front)
-      ∙ outer-cut i.outer.items (suc label) (omega (arith, lt)) ∙ ap (λ (es : List Entry). drop (suc label) es) around;
+          ∙ outer-cut i.outer.items (suc label) (omega (arith, lt)) ∙ ap (λ (es : List Entry). drop (suc label) es) around;
       values = moved;
     }
 
@@ -267,7 +267,7 @@ again-parts i s n label have count target new again outer values e len lt cut is
     record {
       top = is;
       outer = ap (λ (os : List Opened). reverse (map entry_of os)) (cut ∙ ap (λ k. take k i.outer.items) front)
-      ∙ outer-cut i.outer.items label (omega (arith, lt)) ∙ ap (λ (es : List Entry). drop label es) around;
+          ∙ outer-cut i.outer.items label (omega (arith, lt)) ∙ ap (λ (es : List Entry). drop label es) around;
       values = moved;
     }
 

@@ -19,3 +19,4 @@ pub mod ListLemmas
 pub mod CallLemmas
 pub mod AskLemmas
 pub mod GrowAskLemmas
+pub mod IndirectLemmas

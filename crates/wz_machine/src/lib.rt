@@ -19,6 +19,7 @@ mod callee;
 mod calls;
 mod counts;
 mod growing;
+mod indirect;
 pub mod laws;
 mod machine;
 mod operands;
