@@ -9,11 +9,11 @@ use Rattle.wz_machine.specs.declared.stacks.Opened.{Opened}
 use Rattle.wz_machine.specs.declared.stacks.Stacks.TheInside.{Inside}
 use Rattle.wz_machine.specs.Stacks.{EntryKind, CallEntry, BlockEntry, LoopEntry, Entry, StackParts, HasRoom, IsBlockIn, IsCallIn, IsKindIn, IsOutermost, AreStacked, IsStacked}
 use Rattle.wz_machine.specs.Kept.{entry_of, stack_parts, AreKept}
-use Rattle.wz_machine.specs.Opening.{IsBlockKind, block_in, with_block}
+use Rattle.wz_machine.specs.Opening.{IsBlockKind, block_in, with_block, stepped}
 use Rattle.wz_machine.specs.Landing.{IsLeft, IsAgain}
 use Rattle.wz_machine.proofs.ListLemmas.{drop-back}
 
-parts-same : (t u : Entry) (o p : List Entry) (v w : List Value) → t ≡ u → o ≡ p → v ≡ w
+pub parts-same : (t u : Entry) (o p : List Entry) (v w : List Value) → t ≡ u → o ≡ p → v ≡ w
     → ◌≡◌ {A = StackParts} (record { top = t; outer = o; values = v }) (record { top = u; outer = p; values = w })
 parts-same t u o p v w a b e = cc
 
@@ -95,6 +95,17 @@ with_block-stacked s rest kind code have params arity block within own stacked =
       small = stacked.small;
     }
 
+-- ---- an instruction is left behind
+
+pub stepped-stacked : (s : StackParts) (rest : List Instr) (have : ℕ) → s.top.height ≤ have → have ≤ length s.values → IsStacked s → IsStacked (stepped s rest have)
+stepped-stacked s rest have own within stacked = record {
+  within = rw (length-take-le have s.values within) own;
+  room = record { base = stacked.room.base; locals = stacked.room.locals; height = stacked.room.height; counted = stacked.room.counted };
+  stacked = stacked-moved s.top rest s.outer stacked.stacked;
+  few = stacked.few;
+  small = stacked.small;
+}
+
 -- ---- entries that are left
 
 -- how the entry of a label stands in its parent
@@ -104,8 +115,19 @@ pub record FoundAt (child target parent : Entry) (parents : List Entry) : Type 0
   pub room : HasRoom parent
   pub stacked : AreStacked parent parents
   pub own : HasRoom target
+  pub base : target.base ≤ child.height
   pub few : target.frames ≤ child.frames
   pub small : target.frame_locals ≤ child.frame_locals
+
+-- an entry begins below all that is within it
+pub base-falls : (label : ℕ) (child target : Entry) (outer : List Entry) → HasRoom child → AreStacked child outer → slice_get (child ∷ outer) label ≡ Some target
+    → target.base ≤ child.height
+base-falls zero child target outer room stacked here =
+    let e : child ≡ target = cc in
+    subst (λ (t : Entry). t.base ≤ child.height) e room.base
+base-falls (suc label) child target [] room stacked here = cc
+base-falls (suc label) child target (first ∷ outer) room stacked here =
+    omega (arith, base-falls label first target outer stacked.2 stacked.3 here, stacked.1, room.base)
 
 counts-fall : (kind : EntryKind) (child parent : Entry) → IsKindIn kind child parent → (parent.frames ≤ child.frames) × (parent.frame_locals ≤ child.frame_locals)
 counts-fall CallEntry child parent h = (omega (arith, h.frames), omega (arith, h.frame_locals))
@@ -116,14 +138,15 @@ found-same : (child target first parent : Entry) (parents : List Entry) → chil
 found-same child target first parent parents e f h =
     subst (λ (p : Entry). FoundAt child target p parents) f (subst (λ (t : Entry). FoundAt child t first parents) e h)
 
-found-outwards : (child next target parent : Entry) (parents : List Entry) → (next.frames ≤ child.frames) × (next.frame_locals ≤ child.frame_locals)
+found-outwards : (child next target parent : Entry) (parents : List Entry) → next.height ≤ child.height → (next.frames ≤ child.frames) × (next.frame_locals ≤ child.frame_locals)
     → FoundAt next target parent parents → FoundAt child target parent parents
-found-outwards child next target parent parents fall h = record {
+found-outwards child next target parent parents le fall h = record {
   kind = h.kind;
   height = h.height;
   room = h.room;
   stacked = h.stacked;
   own = h.own;
+  base = omega (arith, h.base, le);
   few = omega (arith, h.few, fall.0);
   small = omega (arith, h.small, fall.1);
 }
@@ -133,9 +156,9 @@ pub found-at : (label : ℕ) (child target parent : Entry) (outer : List Entry) 
 found-at label child target parent [] room stacked here around = cc
 found-at zero child target parent (first ∷ outer) room stacked here around =
     found-same child target first parent outer (cc) (cc)
-    (record { kind = stacked.0; height = stacked.1; room = stacked.2; stacked = stacked.3; own = room; few = omega arith; small = omega arith })
+    (record { kind = stacked.0; height = stacked.1; room = stacked.2; stacked = stacked.3; own = room; base = room.base; few = omega arith; small = omega arith })
 found-at (suc label) child target parent (first ∷ outer) room stacked here around =
-    found-outwards child first target parent (drop (suc label) outer) (counts-fall child.kind child first stacked.0)
+    found-outwards child first target parent (drop (suc label) outer) (omega (arith, stacked.1, room.base)) (counts-fall child.kind child first stacked.0)
     (found-at label first target parent outer stacked.2 stacked.3 here around)
 
 pub left-stacked : (s now : StackParts) (label have count : ℕ) (target : Entry) → IsStacked s → slice_get (s.top ∷ s.outer) label ≡ Some target
@@ -275,3 +298,11 @@ again-parts i s n label have count target new again outer values e len lt cut is
 pub outer-kept : (i : Inside) (s : StackParts) → parts_in i ≡ s → length i.outer.items ≡ length s.outer
 outer-kept i s e =
     sym (length-map i.outer.items entry_of) ∙ sym (length-reverse (map entry_of i.outer.items)) ∙ ap (λ (t : StackParts). length t.outer) e
+
+-- so many values from a place on
+pub range-kept : (i : Inside) (s : StackParts) (at count : ℕ) → parts_in i ≡ s → i.have ≤ length i.values.items → at + count ≤ length s.values
+    → take (at + count - at) (drop at i.values.items) ≡ range_of s.values at count
+range-kept i s at count e within le =
+    let size : at + count - at ≡ count = omega arith in
+    let front : take (at + count) i.values.items ≡ take (at + count) s.values = values-kept i s (at + count) e within le in
+    ap (λ n. take n (drop at i.values.items)) size ∙ sym (drop-take at count i.values.items) ∙ ap (λ vs. drop at vs) front ∙ drop-take at count s.values

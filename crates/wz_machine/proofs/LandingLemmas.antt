@@ -1,15 +1,14 @@
 -- A branch, a return and an end within the layers that the machine's stacks stand for lead where `landing` and `ending` say.
-use Rattle.std.proofs.Common.{◌≡◌, ◌≤◌, ◌<◌, ℕ, zero, suc, ◌+◌, ◌-◌, nat_le, ◌==◌, List, [], ◌∷◌, ◌++◌, Option, Some, None, if◌then◌else◌, length, take, drop, reverse, map, refl, ap, sym, subst, ◌∙◌, arith}
+use Rattle.std.proofs.Common.{◌≡◌, ◌≤◌, ◌<◌, ℕ, zero, suc, ◌+◌, ◌-◌, nat_le, ◌==◌, List, [], ◌∷◌, ◌++◌, Some, if◌then◌else◌, length, take, drop, reverse, map, refl, ap, sym, ◌∙◌, arith}
 use Rattle.std.proofs.lemmas.List.{drop-take, take-take, length-take-le, length-reverse, reverse-reverse}
 use Rattle.wz_types.specs.declared.value.Value.{Value}
 use Rattle.wz_code.specs.Trees.{Code, code_in}
 use Rattle.wz_store.specs.Changes.{Nothing}
 use Rattle.wz_machine.specs.Terms.{Innermost, InLabel, Term}
 use Rattle.wz_machine.specs.Outcomes.{Answer, Next, Done, Stuck}
-use Rattle.wz_machine.specs.Step.{results_answer}
-use Rattle.wz_machine.specs.Contexts.{FrameContent, Layer, LabelLayer, FrameLayer, term_in, code_content, branch_answer, return_answer, end_answer}
-use Rattle.wz_machine.specs.Flat.{OpenKind, OpenFunction, OpenBlock, OpenLoop, Opened, locals_in, own_values, layer_of, layers_of, results_of, flat_term, HasPlaces}
-use Rattle.wz_machine.specs.Stacks.{EntryKind, CallEntry, BlockEntry, LoopEntry, Entry, StackParts, open_kind, opened_of, flat_of, stacks_term, HasRoom, IsCallIn, IsBlockIn, IsKindIn, IsOutermost, AreStacked, IsStacked}
+use Rattle.wz_machine.specs.Contexts.{Layer, term_in, code_content, branch_answer, return_answer, end_answer}
+use Rattle.wz_machine.specs.Flat.{locals_in, own_values, layer_of, layers_of, results_of, HasPlaces}
+use Rattle.wz_machine.specs.Stacks.{EntryKind, CallEntry, BlockEntry, LoopEntry, Entry, open_kind, opened_of, stacks_term, HasRoom, IsBlockIn, IsKindIn, AreStacked}
 use Rattle.wz_machine.specs.Landing.{arrived, landing, ending_in, ending}
 use Rattle.wz_machine.proofs.FlatLemmas.{leaving_term, looping_term}
 

@@ -1,15 +1,12 @@
 -- The machine's flat stacks as terms: calls from outside, and the parts of the list of values.
-use Rattle.std.proofs.Common.{◌≡◌, ◌≤◌, ℕ, ◌+◌, ◌-◌, List, [], ◌∷◌, ◌++◌, length, take, drop, reverse, refl, ap, sym, ◌∙◌, arith, take_all}
+use Rattle.std.proofs.Common.{◌≡◌, ◌≤◌, ℕ, ◌-◌, List, [], length, take, drop, ap, sym, ◌∙◌, arith, take_all}
 use Rattle.std.proofs.lemmas.List.{take-take, length-take-le}
 use Rattle.std.proofs.Math.Seq.{drop-length}
 use Rattle.wz_types.specs.declared.value.Value.{Value}
-use Rattle.wz_code.specs.declared.instr.Instr.{Instr}
 use Rattle.wz_code.specs.BodyParts.{BodyParts, block_at}
 use Rattle.wz_code.specs.BlockRule.{IsBody}
-use Rattle.wz_code.specs.Trees.{Code, code_in, tree_of}
+use Rattle.wz_code.specs.Trees.{code_in, tree_of}
 use Rattle.wz_code.proofs.LawLemmas.{tree_of_block}
-use Rattle.wz_valid_code.specs.Context.{locals_of_runs}
-use Rattle.wz_machine.specs.Terms.{Innermost, Term, Frame}
 use Rattle.wz_machine.specs.Stacks.{stacks_term, started, call_locals, IsStartOf}
 
 -- a body's block, as code

@@ -31,6 +31,8 @@ pub mod Kept
 pub mod Opening
 pub mod Landing
 pub mod Turns
+pub mod Ticks
+pub mod Strides
 pub mod TypedState
 pub mod Callees
 pub mod Growths
@@ -43,3 +45,7 @@ pub mod PlainSteps
 pub mod Operands
 pub mod Asks
 pub mod Calling
+pub mod Straight
+pub mod Advance
+pub mod Running
+pub mod PlainTurns

@@ -1,6 +1,5 @@
 -- How the machine's stacks change where a block or a call is entered or left (sections 4.4.8 to 4.4.10 of the Core Specification).
-use Rattle.std.specs.Prelude.{◌≡◌, ℕ, suc, ◌+◌, ◌-◌, List, [], ◌∷◌, ◌++◌, length, take, drop}
-use Rattle.wz_types.specs.declared.value.Value.{Value}
+use Rattle.std.specs.Prelude.{ℕ, suc, ◌-◌, List, ◌∷◌, take}
 use Rattle.wz_code.specs.declared.instr.Instr.{Instr}
 use Rattle.wz_machine.specs.Stacks.{EntryKind, CallEntry, BlockEntry, LoopEntry, Entry, StackParts}
 
@@ -34,3 +33,9 @@ with_block s rest kind code have params arity = record {
   outer = record s.top { rest = rest } ∷ s.outer;
   values = take have s.values;
 }
+
+-- ---- an instruction is left behind
+
+-- this is left of the innermost block, and so many values stay
+abbrev pub stepped : StackParts → List Instr → ℕ → StackParts
+stepped s rest have = record { top = record s.top { rest = rest }; outer = s.outer; values = take have s.values }

@@ -1,4 +1,4 @@
-use Rattle.std.proofs.Common.{◌≡◌, ◌∙◌, List, ◌∷◌, reverse, map, ap, rules, arith, subst}
+use Rattle.std.proofs.Common.{◌∙◌, List, ◌∷◌, reverse, map, ap, rules, subst}
 use Rattle.wz_machine.specs.declared.stacks.Opened.{Opened}
 use Rattle.wz_machine.specs.Stacks.{StackParts, IsStacked}
 use Rattle.wz_machine.specs.Kept.{entry_of, kind_of}

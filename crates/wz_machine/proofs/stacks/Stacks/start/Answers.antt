@@ -1,4 +1,3 @@
-use Rattle.std.proofs.Common.{rules}
 use Rattle.wz_machine.proofs.StackLemmas.{started-term}
 use Rattle.wz_machine.proofs.stacks.Stacks.start.Goals as goal
 
