@@ -27,4 +27,5 @@ pub mod StraightLemmas
 pub mod SiteLemmas
 pub mod RunLemmas
 pub mod GrowAskLemmas
+pub mod IndirectLemmas
 pub mod TurnLemmas

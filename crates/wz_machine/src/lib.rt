@@ -20,6 +20,7 @@ mod calls;
 mod control;
 mod counts;
 mod growing;
+mod indirect;
 pub mod laws;
 mod machine;
 mod operands;
@@ -30,9 +31,9 @@ mod room;
 mod run;
 mod stacks;
 mod standing;
+mod straight;
 mod stride;
 mod tick;
-mod straight;
 mod turn;
 mod waiting;
 
