@@ -137,7 +137,10 @@ impl<'m> Stacks<'m> {
             Instr::MemoryGrow(memory) => Ok(of_asking(self.memory_grow(rest, memory, store), rest)),
             Instr::TableGrow(table) => Ok(of_asking(self.table_grow(rest, table, store), rest)),
             Instr::Num(op) => Ok(of_asking(self.ask_float(rest, op, operand_count(op)), rest)),
-            Instr::CallIndirect { .. } => Err(AllocError),
+            Instr::CallIndirect { signature, table } => {
+                let turn = self.call_indirect(rest, signature, table, bodies, store)?;
+                Ok(of_asking(turn, rest))
+            }
             Instr::Unreachable
             | Instr::Nop
             | Instr::RefNull(_)
