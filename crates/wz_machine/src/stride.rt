@@ -29,7 +29,10 @@ use wz_types::TrapKind;
 #[derive(Clone, Copy)]
 pub(crate) enum Stride<'m> {
     Went,
-    Ends { at: usize, count: usize },
+    Ends {
+        at: usize,
+        count: usize,
+    },
     Trapped(TrapKind),
     Stuck,
     Asks {
