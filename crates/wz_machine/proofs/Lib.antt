@@ -29,3 +29,4 @@ pub mod RunLemmas
 pub mod GrowAskLemmas
 pub mod IndirectLemmas
 pub mod TurnLemmas
+pub mod PeekLemmas

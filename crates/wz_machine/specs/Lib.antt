@@ -49,3 +49,4 @@ pub mod Straight
 pub mod Advance
 pub mod Running
 pub mod PlainTurns
+pub mod Peeks

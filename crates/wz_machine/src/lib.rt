@@ -24,6 +24,7 @@ mod indirect;
 pub mod laws;
 mod machine;
 mod operands;
+mod peek;
 mod plain;
 mod plain_turn;
 mod questions;

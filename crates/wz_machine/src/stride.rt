@@ -80,7 +80,7 @@ fn of_asking<'m>(turn: AskTurn<'m>, rest: &'m [Instr]) -> Stride<'m>
 
 /// The first instruction and those behind it.
 #[inline]
-fn split<'m>(code: &'m [Instr]) -> Option<(Instr, &'m [Instr])>
+pub(crate) fn split<'m>(code: &'m [Instr]) -> Option<(Instr, &'m [Instr])>
     ensures { MatchOption result (code.now ≡ []) (λ parts. code.now ≡ parts.0 ∷ parts.1.now) }
 {
     let (first, rest) = code.split_first()?;
