@@ -298,3 +298,11 @@ again-parts i s n label have count target new again outer values e len lt cut is
 pub outer-kept : (i : Inside) (s : StackParts) → parts_in i ≡ s → length i.outer.items ≡ length s.outer
 outer-kept i s e =
     sym (length-map i.outer.items entry_of) ∙ sym (length-reverse (map entry_of i.outer.items)) ∙ ap (λ (t : StackParts). length t.outer) e
+
+-- so many values from a place on
+pub range-kept : (i : Inside) (s : StackParts) (at count : ℕ) → parts_in i ≡ s → i.have ≤ length i.values.items → at + count ≤ length s.values
+    → take (at + count - at) (drop at i.values.items) ≡ range_of s.values at count
+range-kept i s at count e within le =
+    let size : at + count - at ≡ count = omega arith in
+    let front : take (at + count) i.values.items ≡ take (at + count) s.values = values-kept i s (at + count) e within le in
+    ap (λ n. take n (drop at i.values.items)) size ∙ sym (drop-take at count i.values.items) ∙ ap (λ vs. drop at vs) front ∙ drop-take at count s.values

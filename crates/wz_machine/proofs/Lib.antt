@@ -26,4 +26,6 @@ pub mod AskLemmas
 pub mod StraightLemmas
 pub mod SiteLemmas
 pub mod RunLemmas
+pub mod GrowAskLemmas
 pub mod TurnLemmas
+pub mod AdvanceLemmas

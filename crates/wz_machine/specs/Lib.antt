@@ -32,6 +32,7 @@ pub mod Opening
 pub mod Landing
 pub mod Turns
 pub mod Ticks
+pub mod Strides
 pub mod TypedState
 pub mod Callees
 pub mod Growths

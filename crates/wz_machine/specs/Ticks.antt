@@ -1,5 +1,5 @@
 -- What a tick of a machine answers and leaves, beside `tick_reply` of `Replies`.
-use Rattle.std.specs.Prelude.{◌≡◌, ◌≤◌, ◌+◌, ℕ, List, [], ◌∷◌, length}
+use Rattle.std.specs.Prelude.{◌≡◌, ℕ, List, [], ◌∷◌, Option, None, Bool, true, false}
 use Rattle.wz_types.specs.declared.value.Value.{Value}
 use Rattle.wz_code.specs.BodyParts.{BodyParts}
 use Rattle.wz_store.specs.Made.{StoreState}
@@ -13,7 +13,8 @@ use Rattle.wz_machine.specs.Terms.{Standing, Runs, Waits}
 use Rattle.wz_machine.specs.Step.{step}
 use Rattle.wz_machine.specs.Moves.{Event, Refused, Went, DoneEvent, Trapped, HostCall, FloatAsked, GrowAsked, StuckEvent}
 use Rattle.wz_machine.specs.Replies.{question_event, answer_reply, tick_reply}
-use Rattle.wz_machine.specs.Standings.{StandingParts, standing_of}
+use Rattle.wz_machine.specs.Stacks.{StackParts}
+use Rattle.wz_machine.specs.Standings.{StacksWork, Asking, StandingParts, standing_of}
 
 -- ---- what is seen of a tick
 
@@ -52,3 +53,34 @@ pub record StandingTicked (bodies : List BodyParts) (s : StoreState) (old : Stan
   pub event : event_of answer ≡ tick_event (state_of bodies s) (standing_of old ∷ [])
   pub store : t ≡ applied (tick_reply (state_of bodies s) (standing_of old ∷ [])).change s
   pub stack : (tick_reply (state_of bodies s) (standing_of old ∷ [])).stack ≡ left_by answer (standing_of new)
+
+-- a term that runs, and one that may wait, with so many operands
+abbrev pub asking_with : StackParts → Option Asking → ℕ → StandingParts
+asking_with stacks question count = record { work = StacksWork stacks; question = question; count = count }
+
+abbrev pub running : StackParts → StandingParts
+running stacks = asking_with stacks None 0
+
+-- ---- of the stack of terms
+
+abbrev pub is_over : Tick → Bool
+is_over tick.Idle = false
+is_over tick.Went = false
+is_over (tick.Done values) = true
+is_over (tick.Trapped kind) = true
+is_over (tick.Asked ask) = false
+is_over tick.Stuck = false
+
+-- the topmost term was ticked, and stays where it is even if it is over
+pub record TopTicked (bodies : List BodyParts) (s : StoreState) (old : List Standing) (answer : Tick) (new : List Standing) (t : StoreState) : Type 0 where
+  pub before : StandingParts
+  pub after : StandingParts
+  pub below : List Standing
+  pub was : old ≡ standing_of before ∷ below
+  pub is : new ≡ standing_of after ∷ below
+  pub ticked : StandingTicked bodies s before answer after t
+
+pub record StackTicked (bodies : List BodyParts) (s : StoreState) (old : List Standing) (answer : Tick) (new : List Standing) (t : StoreState) : Type 0 where
+  pub event : event_of answer ≡ tick_event (state_of bodies s) old
+  pub store : t ≡ applied (tick_reply (state_of bodies s) old).change s
+  pub stack : new ≡ (tick_reply (state_of bodies s) old).stack

@@ -107,7 +107,7 @@ impl<'m> Stacks<'m> {
 
     /// Calls this function with the last of the first `have` values as arguments: its frame is
     /// entered, or the host's function is asked for.
-    fn call_callee(
+    pub fn call_callee(
         &mut self,
         rest: &'m [Instr],
         callee: Callee<'m>,
@@ -130,7 +130,6 @@ impl<'m> Stacks<'m> {
                 Ok(AskTurn::Went)
             }
             CalleeCode::Import(number) => {
-                self.step_over(rest, have);
                 let pending = Pending::Host {
                     target: HostTarget::Import(number),
                     kind: callee.kind,
@@ -138,6 +137,7 @@ impl<'m> Stacks<'m> {
                 Ok(AskTurn::Asks {
                     pending,
                     count: params,
+                    have,
                 })
             }
         }
@@ -153,7 +153,8 @@ impl<'m> Stacks<'m> {
     ) -> Result<AskTurn<'m>, AllocError>
         requires { self.old.top.rest ≡ Call function ∷ rest.now }
         ensures turned { IfOk result (λ turn. AskTurned
-            (step (state_of bodies.now store.now) (stacks_term self.old)) self.old turn self.new) }
+            (step (state_of bodies.now store.now) (stacks_term self.old)) self.old rest.now turn
+            self.new) }
         ensures refused { OnErr result (self.new ≡ self.old) }
     {
         let have = self.have;

@@ -5,6 +5,7 @@ ghost use Rattle.wz_store.specs.Changes.{applied, GrowTable, GrowMemory};
 ghost use Rattle.wz_store.specs.Growth.{within_maximum, may_extend, may_grow};
 ghost use Rattle.std.specs.Option.{option_map};
 ghost use Rattle.wz_machine.specs.Growths.{growing_pages, growing_entries};
+ghost use Rattle.wz_machine.specs.Growths.{memory_growable, table_growable};
 ghost use Rattle.wz_machine.specs.Keeping.{asking_of};
 ghost use Rattle.wz_machine.specs.Waiting.{size_found, growth_change};
 
@@ -37,6 +38,30 @@ pub(crate) fn table_may_grow(size: u32, maximum: Option<u32>, by: u32) -> bool
 {
     let size = u64::from(size) + u64::from(by);
     size <= u64::from(u32::MAX) && within(maximum, size)
+}
+
+/// Whether the memory may grow by so many pages; None where there is none.
+pub(crate) fn memory_room<M: Linear>(store: &Store<'_, M>, index: u32, by: u32) -> Option<bool>
+    ensures { result ≡ memory_growable (slice_get store.now.memories index) by }
+{
+    let kind = store.memory_type(index)?;
+    Some(memory_may_grow(kind.limits.min, kind.limits.max, by))
+}
+
+/// Whether the table may grow by so many entries; None where there is none, or one of another kind.
+pub(crate) fn table_room<M: Linear>(
+    store: &Store<'_, M>,
+    index: u32,
+    by: u32,
+    value: Reference,
+) -> Option<bool>
+    ensures { result ≡ table_growable (slice_get store.now.tables index) by value }
+{
+    let kind = store.table_type(index)?;
+    if value.kind() != kind.kind {
+        return None;
+    }
+    Some(table_may_grow(kind.limits.min, kind.limits.max, by))
 }
 
 /// Grows a memory by so many pages of zeros where it may, and gives the number of pages that it had

@@ -11,6 +11,7 @@
 //! `Within`, `Contexts` and `Flat` are what the laws speak of.
 #![tactic(auto)]
 
+mod advance;
 mod answers;
 mod asking;
 mod blocks;
@@ -31,6 +32,8 @@ mod run;
 mod stacks;
 mod standing;
 mod straight;
+mod stride;
+mod tick;
 mod turn;
 mod waiting;
 

@@ -43,5 +43,10 @@ returns-in-Import-clause-turned c =
     let height : c.self.inside.top.height ≡ s.top.height = ap (λ (t : StackParts). t.top.height) c.self.view_is in
     let params : length c.params-params.result.now ≡ length kind.params = ap length c.params-params.ensures in
     let own : s.top.height + length kind.params ≤ have = omega (arith, height, params, c.if-have-self.false, c.requires.own) in
-    λ st comes. rw (params, c.step_over.ensures)
-    (import_called s c.args.rest.now kind (body_in c.args.callee.code) c.in-Import.number have stacked c.requires.values own (ap body_in c.in-Import.is) st comes)
+    λ st comes. record {
+      asked = rw params
+          (import_called s c.args.rest.now kind (body_in c.args.callee.code) c.in-Import.number have stacked c.requires.values own (ap body_in c.in-Import.is) st comes);
+      own = c.requires.own;
+      values = c.requires.values;
+      same = refl;
+    }
