@@ -30,3 +30,4 @@ pub mod GrowAskLemmas
 pub mod IndirectLemmas
 pub mod TurnLemmas
 pub mod PeekLemmas
+pub mod AdvanceLemmas

@@ -11,6 +11,7 @@
 //! `Within`, `Contexts` and `Flat` are what the laws speak of.
 #![tactic(auto)]
 
+mod advance;
 mod answers;
 mod asking;
 mod blocks;
