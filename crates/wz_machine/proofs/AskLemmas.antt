@@ -156,7 +156,7 @@ few_called s rest callable have is within lt st comes =
     (args_few callable.type (λ arguments below. invocation callable.type callable.body arguments below) s.top.height (take have s.values) (omega (arith, len, lt))))
 
 -- the arguments are there
-comes_taken : (s : StackParts) (rest : List Instr) (type : FunctionType) (outcome : List Value → List Value → Outcome) (have : ℕ) → have ≤ length s.values
+pub comes_taken : (s : StackParts) (rest : List Instr) (type : FunctionType) (outcome : List Value → List Value → Outcome) (have : ℕ) → have ≤ length s.values
     → s.top.height + length type.params ≤ have → (st : State) → ComesTo st s rest (with_arguments type outcome (own_of s have))
     → ComesTo st s rest (outcome (last_values (length type.params) (take have s.values)) (reverse (drop s.top.height (first_values (length type.params) (take have s.values)))))
 comes_taken s rest type outcome have within own st comes =
@@ -177,7 +177,7 @@ own_called s rest type what body have is is_body within own e st comes =
     (taken ∙ ap (λ (f : FunctionBody). outcome_reduct (locals_in (opened_of s.top) s.values) (code_in s.top.body rest) (invocation type f args below)) e)
 
 -- a question for the host, with the last of so many values as arguments
-asked_host : (s : StackParts) (rest : List Instr) (target : HostTarget) (type : FunctionType) (have : ℕ) → IsStacked s → have ≤ length s.values
+pub asked_host : (s : StackParts) (rest : List Instr) (target : HostTarget) (type : FunctionType) (have : ℕ) → IsStacked s → have ≤ length s.values
     → s.top.height + length type.params ≤ have → (st : State)
     → ComesTo st s rest (Does (Poses (AskHost target (last_values (length type.params) (take have s.values)) type)
     (reverse (drop s.top.height (first_values (length type.params) (take have s.values))))))

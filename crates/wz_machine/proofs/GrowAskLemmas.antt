@@ -32,7 +32,7 @@ use Rattle.wz_machine.proofs.AskLemmas.{instr_comes, went_step, asked_step, stuc
 
 -- ---- operands on top
 
-number_on : (xs : List Value) (bits : ℕ) → top_number xs ≡ Some bits → xs ≡ I32 bits ∷ drop 1 xs
+pub number_on : (xs : List Value) (bits : ℕ) → top_number xs ≡ Some bits → xs ≡ I32 bits ∷ drop 1 xs
 number_on [] bits e = absurd (cc e)
 number_on (I32 b ∷ values) bits e = let same : b ≡ bits = cc e in ap (λ (n : ℕ). I32 n ∷ values) same
 number_on (I64 b ∷ values) bits e = absurd (cc e)
@@ -76,7 +76,7 @@ asked_last st s rest asking count have is len own answerable comes =
     let size : length v ≡ have = length-take-le have s.values (omega (arith, len)) in
     record {
       asks = asked_step st s rest is (question_of asking (last_values count s.values)) (first_values count s.values) front comes
-      ∙ cc (all);
+          ∙ cc (all);
       operands = omega (arith, size, len, own);
       answerable = answerable;
     }
@@ -126,7 +126,7 @@ memory_outcome st s rest index by may at number is =
     ∙ ap (λ (e : Effect). outcome_reduct (locals_in (opened_of s.top) s.values) (code_in s.top.body rest) (Does e))
     (memory_by (slice_get st.memories index) index by (drop 1 (own_stack s)) ∙ ap (λ (m : Option Bool). memory_effect m index by (drop 1 (own_stack s))) is)
 
-number_long : (s : StackParts) (bits : ℕ) → top_number (own_stack s) ≡ Some bits → s.top.height + 1 ≤ length s.values
+pub number_long : (s : StackParts) (bits : ℕ) → top_number (own_stack s) ≡ Some bits → s.top.height + 1 ≤ length s.values
 number_long s bits number = let len : length (own_stack s) ≡ length (drop 1 (own_stack s)) + 1 = ap length (number_on (own_stack s) bits number) ∙ omega arith in
     own_long s 1 (omega arith) (omega (arith, len))
 

@@ -46,3 +46,6 @@ pub mod SiteLemmas
 pub mod RunLemmas
 pub mod GrowAskLemmas
 pub mod TurnLemmas
+pub mod IndirectLemmas
+pub mod PeekLemmas
+pub mod AdvanceLemmas

@@ -56,7 +56,7 @@ next-in results (FrameLayer below count rest locals ∷ layers) content = next-i
 pub next-head : (s : StackParts) → next (stacks_term s) ≡ head_of (code_in s.top.body s.top.rest)
 next-head s = next-in (results_of (opened_of s.top) (map opened_of s.outer)) (layers_in (flat_of s)) (content_of (flat_of s))
 
-leaf-spares : (body : BodyParts) (instr : Instr) → leaf_changes_table (leaf_in body instr) ≡ changes_table instr
+pub leaf-spares : (body : BodyParts) (instr : Instr) → leaf_changes_table (leaf_in body instr) ≡ changes_table instr
 leaf-spares body (BrTable first count last) = refl
 leaf-spares body (SelectTyped first count) = refl
 leaf-spares body instr = refl

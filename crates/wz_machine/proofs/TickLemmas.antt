@@ -102,7 +102,7 @@ ticked-asked bodies s t before now asking count rest have ask operands will step
     let goes = will.asked.asks in
     record {
       event = event ∙ ap (λ (vs : List Value). question_event (question_of asking vs)) is
-      ∙ ap (λ (a : Answer). (answer_reply (stacks_term before) [] a).event) (sym goes);
+          ∙ ap (λ (a : Answer). (answer_reply (stacks_term before) [] a).event) (sym goes);
       store = same ∙ ap (λ (a : Answer). applied (answer_reply (stacks_term before) [] a).change s) (sym goes);
       stack = ap (λ (a : Answer). (answer_reply (stacks_term before) [] a).stack) goes ∙ ap (λ (b : StackParts). standing_of (asking_with b (Some asking) count) ∷ []) (sym step_to);
     }
@@ -147,9 +147,9 @@ stack-from bodies s t old new answer top now is =
     record {
       event = top.ticked.event ∙ sym (tick-event st before top.below) ∙ ap (λ (stack : List Standing). tick_event st stack) (sym top.was);
       store = top.ticked.store ∙ ap (λ (change : Change). applied change s) (sym (tick-change st before top.below))
-      ∙ ap (λ (stack : List Standing). applied (tick_reply st stack).change s) (sym top.was);
+          ∙ ap (λ (stack : List Standing). applied (tick_reply st stack).change s) (sym top.was);
       stack = is ∙ ap (λ (front : List Standing). front ++ top.below) (sym top.ticked.stack) ∙ sym (tick-stack st before top.below)
-      ∙ ap (λ (stack : List Standing). (tick_reply st stack).stack) (sym top.was);
+          ∙ ap (λ (stack : List Standing). (tick_reply st stack).stack) (sym top.was);
     }
 
 pub stack-goes : (bodies : List BodyParts) (s t : StoreState) (old new : List Standing) (answer : Tick) → TopTicked bodies s old answer new t → is_over answer ≡ false

@@ -64,3 +64,11 @@ GoesNot Stuck = Unit {0}
 -- the next step changes a table or doesn't go on
 abbrev pub HaltsNext : State → Term → Type 0
 HaltsNext s term = IsTrue (head_changes_table (next term)) ⊎ GoesNot (step s term)
+
+-- ---- an advance
+
+-- So many steps were made, as many as were asked for or up to where the next one doesn't plainly go on; or the last one entered a
+-- function.
+abbrev pub IsAdvance : Bool → ℕ → ℕ → State → Term → State → Term → Type 0
+IsAdvance true limit made s term after new = ReachesEntry made s term after new
+IsAdvance false limit made s term after new = Reaches made s term after new × ((made ≡ limit) ⊎ HaltsNext after new)

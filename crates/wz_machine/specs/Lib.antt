@@ -54,3 +54,4 @@ pub mod Straight
 pub mod Advance
 pub mod Running
 pub mod PlainTurns
+pub mod Peeks

@@ -13,6 +13,7 @@
 //! `TypedLaws` that it stays so and is never stuck.
 #![tactic(auto)]
 
+mod advance;
 mod answers;
 mod asking;
 mod blocks;
@@ -22,9 +23,11 @@ mod calls;
 mod control;
 mod counts;
 mod growing;
+mod indirect;
 pub mod laws;
 mod machine;
 mod operands;
+mod peek;
 mod plain;
 mod plain_turn;
 mod questions;
@@ -32,9 +35,9 @@ mod room;
 mod run;
 mod stacks;
 mod standing;
+mod straight;
 mod stride;
 mod tick;
-mod straight;
 mod turn;
 mod waiting;
 

@@ -11,12 +11,12 @@ ghost use Rattle.wz_machine.specs.Ticks.{asked_event, event_of, tick_event, aski
 ghost use Rattle.wz_machine.specs.Ticks.{StandingTicked, TopTicked, StackTicked};
 
 use crate::answers::Tick;
+use crate::machine::Machine;
 use crate::questions::{Ask, Growth};
 use crate::stacks::Stacks;
-use crate::machine::Machine;
 use crate::standing::{Pending, Standing, Work};
-use crate::waiting::drop_top;
 use crate::stride::Stride;
+use crate::waiting::drop_top;
 use std::alloc::{AllocError, Global};
 use wz_code::Body;
 use wz_linear::Linear;

@@ -45,7 +45,7 @@ returns-in-Import-clause-turned c =
     let own : s.top.height + length kind.params ≤ have = omega (arith, height, params, c.if-have-self.false, c.requires.own) in
     λ st comes. record {
       asked = rw params
-      (import_called s c.args.rest.now kind (body_in c.args.callee.code) c.in-Import.number have stacked c.requires.values own (ap body_in c.in-Import.is) st comes);
+          (import_called s c.args.rest.now kind (body_in c.args.callee.code) c.in-Import.number have stacked c.requires.values own (ap body_in c.in-Import.is) st comes);
       own = c.requires.own;
       values = c.requires.values;
       same = refl;

@@ -1,0 +1,103 @@
+//! Many steps of one term at once.
+
+ghost use Rattle.std.specs.Prelude.{◌≡◌, ◌≤◌, IfOk};
+ghost use Rattle.wz_machine.specs.State.{state_of};
+ghost use Rattle.wz_machine.specs.Next.{next};
+ghost use Rattle.wz_machine.specs.Stacks.{stacks_term};
+ghost use Rattle.wz_machine.specs.Advance.{head_changes_table, IsAdvance};
+
+use crate::stacks::Stacks;
+use crate::straight::is_table_change;
+use crate::stride::Stride;
+use std::alloc::AllocError;
+use wz_code::Body;
+use wz_linear::Linear;
+use wz_store::Store;
+
+/// How many steps were made, and whether the last of them entered a function.
+#[derive(Clone, Copy)]
+pub(crate) struct Advance {
+    pub made: u64,
+    pub entered: bool,
+}
+
+impl<'m> Stacks<'m> {
+    /// Whether the instruction that comes next changes a table.
+    fn meets_table(&self) -> bool
+        ensures { result ≡ head_changes_table (next (stacks_term self.now)) }
+    {
+        let top = self.innermost();
+        match top.rest.split_first() {
+            Some((instr, _)) => is_table_change(instr),
+            None => false,
+        }
+    }
+
+    /// Makes at most so many steps that plainly go on, the last of which may enter a function.
+    pub fn advance<M: Linear>(
+        &mut self,
+        limit: u64,
+        bodies: &'m [Body],
+        store: &mut Store<'m, M>,
+    ) -> Result<Advance, AllocError>
+        ensures { IfOk result (λ done. IsAdvance done.entered limit done.made
+            (state_of bodies.now store.old) (stacks_term self.old)
+            (state_of bodies.now store.new) (stacks_term self.new)) }
+    {
+        let mut made = 0;
+        while made < limit {
+            let pause = self.run((limit - made) as usize, store)?;
+            made += pause.made as u64;
+            if made == limit {
+                return Ok(Advance {
+                    made,
+                    entered: false,
+                });
+            }
+            if self.meets_table() {
+                return Ok(Advance {
+                    made,
+                    entered: false,
+                });
+            }
+            let frames = self.frames();
+            let locals = self.frame_locals();
+            match self.stride(bodies, store)? {
+                Stride::Went => made += 1,
+                Stride::Ends { at: _, count: _ } => return Ok(Advance {
+                    made,
+                    entered: false,
+                }),
+                Stride::Trapped(_) => return Ok(Advance {
+                    made,
+                    entered: false,
+                }),
+                Stride::Stuck => return Ok(Advance {
+                    made,
+                    entered: false,
+                }),
+                Stride::Asks {
+                    pending: _,
+                    count: _,
+                    rest: _,
+                    have: _,
+                } => {
+                    return Ok(Advance {
+                        made,
+                        entered: false,
+                    });
+                }
+            }
+            if self.frames() > frames || self.frame_locals() > locals {
+                return Ok(Advance {
+                    made,
+                    entered: true,
+                });
+            }
+        }
+        Ok(Advance {
+            made,
+            entered: false,
+        })
+    }
+}
