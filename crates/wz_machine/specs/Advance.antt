@@ -1,9 +1,9 @@
 -- Many steps of one term that plainly go on (section 4.4 of the Core Specification), as a run makes them.
-use Rattle.std.specs.Prelude.{◌≡◌, ◌≤◌, ◌⊎◌, ℕ, zero, suc, Option, Some, None, Bool, true, false, IsTrue, IsFalse}
+use Rattle.std.specs.Prelude.{◌≡◌, ◌≤◌, ◌⊎◌, ℕ, zero, suc, List, [], ◌∷◌, Option, Some, None, Bool, true, false, IsTrue, IsFalse}
 use Rattle.wz_code.specs.Trees.{Leaf, Plain, TableBranch, TypedSelect}
 use Rattle.wz_store.specs.Changes.{Change, applied}
 use Rattle.wz_machine.specs.State.{State}
-use Rattle.wz_machine.specs.Terms.{Term, Question}
+use Rattle.wz_machine.specs.Terms.{Term, Question, Standing, Runs, Waits}
 use Rattle.wz_machine.specs.Outcomes.{Answer, Next, Done, Trap, Ask, Stuck}
 use Rattle.wz_machine.specs.Step.{step}
 use Rattle.wz_machine.specs.Next.{Head, LeafHead, BlockHead, LoopHead, IfHead, next}
@@ -72,3 +72,14 @@ HaltsNext s term = IsTrue (head_changes_table (next term)) ⊎ GoesNot (step s t
 abbrev pub IsAdvance : Bool → ℕ → ℕ → State → Term → State → Term → Type 0
 IsAdvance true limit made s term after new = ReachesEntry made s term after new
 IsAdvance false limit made s term after new = Reaches made s term after new × ((made ≡ limit) ⊎ HaltsNext after new)
+
+-- the same of what stands: one that waits makes no step
+abbrev pub StandingAdvanced : Bool → ℕ → ℕ → State → Standing → State → Standing → Type 0
+StandingAdvanced entered limit made s (Runs term) after new = (now : Term) × (new ≡ Runs now) × IsAdvance entered limit made s term after now
+StandingAdvanced entered limit made s (Waits question rest) after new = (made ≡ 0) × (after ≡ s) × (new ≡ Waits question rest)
+
+-- and of a stack, whose topmost term makes the steps
+abbrev pub StackAdvanced : Bool → ℕ → ℕ → State → List Standing → State → List Standing → Type 0
+StackAdvanced entered limit made s [] after new = (made ≡ 0) × (after ≡ s) × (new ≡ [])
+StackAdvanced entered limit made s (top ∷ below) after new =
+    (now : Standing) × (new ≡ now ∷ below) × StandingAdvanced entered limit made s top after now

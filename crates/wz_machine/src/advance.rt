@@ -4,9 +4,12 @@ ghost use Rattle.std.specs.Prelude.{◌≡◌, ◌≤◌, IfOk};
 ghost use Rattle.wz_machine.specs.State.{state_of};
 ghost use Rattle.wz_machine.specs.Next.{next};
 ghost use Rattle.wz_machine.specs.Stacks.{stacks_term};
-ghost use Rattle.wz_machine.specs.Advance.{head_changes_table, IsAdvance};
+ghost use Rattle.wz_machine.specs.Standings.{work_term, standing_of};
+ghost use Rattle.wz_machine.specs.Keeping.{work_parts};
+ghost use Rattle.wz_machine.specs.Advance.{head_changes_table, IsAdvance, StandingAdvanced};
 
 use crate::stacks::Stacks;
+use crate::standing::{Standing, Work};
 use crate::straight::is_table_change;
 use crate::stride::Stride;
 use std::alloc::AllocError;
@@ -99,5 +102,51 @@ impl<'m> Stacks<'m> {
             made,
             entered: false,
         })
+    }
+}
+
+/// Many steps of a term that waits for nothing.
+fn advance_work<'m, M: Linear>(
+    limit: u64,
+    bodies: &'m [Body],
+    work: &mut Work<'m>,
+    store: &mut Store<'m, M>,
+) -> Result<Advance, AllocError>
+    ensures { IfOk result (λ done. IsAdvance done.entered limit done.made
+        (state_of bodies.now store.old) (work_term (work_parts work.old))
+        (state_of bodies.now store.new) (work_term (work_parts work.new))) }
+{
+    match work {
+        Work::Stacks(stacks) => {
+            let done = stacks.advance(limit, bodies, store)?;
+            Ok(done)
+        }
+        Work::Values(_) => Ok(Advance {
+            made: 0,
+            entered: false,
+        }),
+    }
+}
+
+impl<'m> Standing<'m> {
+    /// Many steps of this term; none where it waits.
+    fn advance<M: Linear>(
+        &mut self,
+        limit: u64,
+        bodies: &'m [Body],
+        store: &mut Store<'m, M>,
+    ) -> Result<Advance, AllocError>
+        ensures { IfOk result (λ done. StandingAdvanced done.entered limit done.made
+            (state_of bodies.now store.old) (standing_of self.old)
+            (state_of bodies.now store.new) (standing_of self.new)) }
+    {
+        if let Some(_) = self.question() {
+            return Ok(Advance {
+                made: 0,
+                entered: false,
+            });
+        }
+        let done = advance_work(limit, bodies, &mut self.work, store)?;
+        Ok(done)
     }
 }
