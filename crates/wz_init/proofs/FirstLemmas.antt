@@ -566,7 +566,7 @@ ready_left m order s ticks profile globals elements e = by (fresh m) refl e
     by : (f : Fresh) → fresh m ≡ f → ready_from m order f ≡ Reached s ticks → IsReachedOf m s
     by (Instance first) is e =
         let was = fresh_left m first profile globals elements is in
-        let left = phases_left was.written first (phases m order) first order.fuel 0 s ticks (first_again m first was is) e in
+        let left = phases_left was.written first (phases m.start order) first order.fuel 0 s ticks (first_again m first was is) e in
         record {
           written = was.written;
           first = first;

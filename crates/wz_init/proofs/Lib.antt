@@ -8,5 +8,6 @@ pub mod FineLemmas
 pub mod LeftLemmas
 pub mod FirstLemmas
 pub mod LawLemmas
-pub mod Steps
 pub mod RunLemmas
+pub mod TurnLemmas
+pub mod PhaseLemmas

@@ -1,31 +1,23 @@
 -- The run from a term, by what its next step comes to, and by many steps that went on.
-use Rattle.std.proofs.Common.{◌≡◌, ℕ, zero, suc, ◌+◌, ◌-◌, ◌<◌, ◌≤◌, nat_lt, List, [], ◌∷◌, Option, Some, None, Bool, true, false, IsTrue, IsFalse, if◌then◌else◌, slice_get, refl, sym, ap, subst, ◌∙◌, arith}
+use Rattle.std.proofs.Common.{◌≡◌, ℕ, zero, suc, ◌+◌, ◌<◌, ◌≤◌, nat_lt, [], Option, Some, None, Bool, true, false, if◌then◌else◌, refl, sym, ap, subst, ◌∙◌, arith}
 use Rattle.std.proofs.Common.{le-ltb, lt-ltb}
-use Rattle.std.proofs.lemmas.Bool.{ltb-false}
-use Rattle.wz_types.specs.declared.trap.TrapKind.{TrapKind}
-use Rattle.wz_types.specs.declared.value.Value.{Value}
 use Rattle.wz_types.specs.FunctionType.{FunctionType}
-use Rattle.wz_code.specs.declared.numeric.NumOp.{NumOp}
-use Rattle.wz_store.specs.Changes.{Change, applied}
 use Rattle.wz_machine.specs.declared.questions.HostTarget.TheVariants as target
 use Rattle.wz_machine.specs.State.{State}
-use Rattle.wz_machine.specs.Terms.{Term, Question, AskFloat, AskMemory, AskTable, AskHost}
-use Rattle.wz_machine.specs.Outcomes.{Answer, Next, Done, Trap, Ask, Stuck}
+use Rattle.wz_machine.specs.Terms.{Term, AskHost, Standing, Runs, Waits}
+use Rattle.wz_machine.specs.Outcomes.{Answer, Next}
 use Rattle.wz_machine.specs.Step.{step}
 use Rattle.wz_machine.specs.Next.{next}
 use Rattle.wz_machine.specs.Frames.{frame_count, local_count}
-use Rattle.wz_init.proofs.Steps.{StepsOn, EntersNone, Reaches, ReachesEntry}
-use Rattle.wz_machine.specs.Replies.{put}
-use Rattle.wz_init.specs.Run.{Stop, FuelIsSpent, TableWouldChange, FramesAreTooMany, LocalsAreTooMany, Trapped, NoRuleFits, FloatIsAsked, ImportIsCalled, RunEnd, Returned, Stopped, head_changes_table, frames_limit, all_locals_limit, too_much, within_limits, growth_change, growth_value, run_question, run_on, run_from}
-use Rattle.wz_init.specs.Reached.{HoldsOwn}
-use Rattle.wz_init.proofs.FineLemmas.{IsFine, TermOwn, AnswerFine, step_fine}
+use Rattle.wz_init.specs.Steps.{StepsOn, Reaches, ReachesEntry}
+use Rattle.wz_machine.specs.Entered.{entered}
+use Rattle.wz_init.specs.Run.{Stop, FuelIsSpent, TableWouldChange, FramesAreTooMany, LocalsAreTooMany, NoRuleFits, ImportIsCalled, Stopped, head_changes_table, frames_limit, all_locals_limit, too_much, within_limits, run_on, run_from, run_standing, run}
+use Rattle.wz_init.specs.Reached.{HoldsOwn, TermOwn}
+use Rattle.wz_init.specs.Turns.{IsWithinLimits}
+use Rattle.wz_init.proofs.FineLemmas.{AnswerFine, step_fine}
 use Rattle.wz_init.proofs.LeftLemmas.{own_on}
 
 -- ---- limits
-
-pub record IsWithinLimits (term : Term) : Type 0 where
-  pub frames : frame_count term ≤ frames_limit
-  pub locals : local_count term ≤ all_locals_limit
 
 pub nothing_too_much : (term : Term) → IsWithinLimits term → too_much term ≡ None
 nothing_too_much term h =
@@ -117,3 +109,23 @@ reaches_own zero s after term new h own holds =
     (subst (λ (t : State). HoldsOwn t) (sym h.0) own, subst (λ (t : Term). TermOwn t) (sym h.1) holds)
 reaches_own (suc n) s after term new h own holds =
     let before = reaches_own n s h.0 term h.1 h.2 own holds in steps_own h.0 after h.1 new h.3 before.0 before.1
+
+pub entry_own : (n : ℕ) (s after : State) (term new : Term) → ReachesEntry n s term after new → HoldsOwn s → TermOwn term → HoldsOwn after × TermOwn new
+entry_own zero s after term new h own holds = absurd h
+entry_own (suc n) s after term new h own holds =
+    let before = reaches_own n s h.0 term h.1 h.2 own holds in steps_own h.0 after h.1 new h.3 before.0 before.1
+
+-- ---- the run of a function
+
+pub run_own : (s : State) (function fuel ticks : ℕ) (term : Term) → entered s function [] ≡ Some (Runs term) → run s function fuel ticks ≡ run_from fuel ticks s term
+unfolding run
+run_own s function fuel ticks term e = ap (λ (o : Option Standing). run_standing fuel ticks s o) e
+
+pub run_import : (s : State) (function fuel ticks number : ℕ) (type : FunctionType) (rest : Term)
+    → entered s function [] ≡ Some (Waits (AskHost (target.Import number) [] type) rest) → run s function fuel ticks ≡ Stopped (ImportIsCalled number)
+unfolding run
+run_import s function fuel ticks number type rest e = ap (λ (o : Option Standing). run_standing fuel ticks s o) e
+
+pub run_missing : (s : State) (function fuel ticks : ℕ) → entered s function [] ≡ None → run s function fuel ticks ≡ Stopped NoRuleFits
+unfolding run
+run_missing s function fuel ticks e = ap (λ (o : Option Standing). run_standing fuel ticks s o) e

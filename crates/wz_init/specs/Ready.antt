@@ -31,9 +31,9 @@ abbrev pub phase_of : Phase → Option ℕ → List (Phase × ℕ)
 phase_of phase None = []
 phase_of phase (Some function) = (phase, function) ∷ []
 
--- each with its function
-abbrev pub phases : Module → RunOrder → List (Phase × ℕ)
-phases m order = phase_of phase.Start m.start ++ (phase_of phase.Reactor order.reactor ++ (phase.Init, order.function) ∷ [])
+-- each with its function, behind this start function
+abbrev pub phases : Option ℕ → RunOrder → List (Phase × ℕ)
+phases start order = phase_of phase.Start start ++ (phase_of phase.Reactor order.reactor ++ (phase.Init, order.function) ∷ [])
 
 -- the later phases go on with the state, the fuel and the ticks that one leaves
 abbrev pub phase_end : Phase → (State → ℕ → ℕ → Ready) → RunEnd → Ready
@@ -47,7 +47,7 @@ phases_run (now ∷ later) s fuel ticks = phase_end now.0 (λ new left made. pha
 -- ---- the whole
 
 abbrev pub ready_from : Module → RunOrder → Fresh → Ready
-ready_from m order (Instance s) = phases_run (phases m order) s order.fuel 0
+ready_from m order (Instance s) = phases_run (phases m.start order) s order.fuel 0
 ready_from m order (ElementUnfit index) = UnfitElement index
 ready_from m order (DataUnfit index) = UnfitData index
 ready_from m order NoInstance = NeverMade
@@ -61,16 +61,19 @@ ready m order = ready_from m order (fresh m)
 abbrev pub IsReached : Module → RunOrder → StoreState → ℕ → Type 0
 IsReached m order store ticks = ready m order ≡ Reached (state_in m store) ticks
 
--- why there is none; want of memory has no cause in the module
+-- why a run came to no state; want of memory has no cause in the module
+abbrev pub IsRefusedBy : Ready → InitFault → Type 0
+IsRefusedBy end (fault.ElementOutOfBounds index) = end ≡ UnfitElement index
+IsRefusedBy end (fault.DataOutOfBounds index) = end ≡ UnfitData index
+IsRefusedBy end (fault.Trap phase kind) = end ≡ StoppedIn phase (Trapped kind)
+IsRefusedBy end fault.OutOfFuel = (phase : Phase) × (end ≡ StoppedIn phase FuelIsSpent)
+IsRefusedBy end (fault.ImportCalled import) = (phase : Phase) × (end ≡ StoppedIn phase (ImportIsCalled import))
+IsRefusedBy end (fault.FloatUsed op) = (phase : Phase) × (end ≡ StoppedIn phase (FloatIsAsked op))
+IsRefusedBy end fault.TableChanged = (phase : Phase) × (end ≡ StoppedIn phase TableWouldChange)
+IsRefusedBy end fault.TooManyFrames = (phase : Phase) × (end ≡ StoppedIn phase FramesAreTooMany)
+IsRefusedBy end fault.TooManyFrameLocals = (phase : Phase) × (end ≡ StoppedIn phase LocalsAreTooMany)
+IsRefusedBy end fault.Stuck = (phase : Phase) × (end ≡ StoppedIn phase NoRuleFits)
+IsRefusedBy end fault.NoMemory = Unit {0}
+
 abbrev pub IsRefused : Module → RunOrder → InitFault → Type 0
-IsRefused m order (fault.ElementOutOfBounds index) = ready m order ≡ UnfitElement index
-IsRefused m order (fault.DataOutOfBounds index) = ready m order ≡ UnfitData index
-IsRefused m order (fault.Trap phase kind) = ready m order ≡ StoppedIn phase (Trapped kind)
-IsRefused m order fault.OutOfFuel = (phase : Phase) × (ready m order ≡ StoppedIn phase FuelIsSpent)
-IsRefused m order (fault.ImportCalled import) = (phase : Phase) × (ready m order ≡ StoppedIn phase (ImportIsCalled import))
-IsRefused m order (fault.FloatUsed op) = (phase : Phase) × (ready m order ≡ StoppedIn phase (FloatIsAsked op))
-IsRefused m order fault.TableChanged = (phase : Phase) × (ready m order ≡ StoppedIn phase TableWouldChange)
-IsRefused m order fault.TooManyFrames = (phase : Phase) × (ready m order ≡ StoppedIn phase FramesAreTooMany)
-IsRefused m order fault.TooManyFrameLocals = (phase : Phase) × (ready m order ≡ StoppedIn phase LocalsAreTooMany)
-IsRefused m order fault.Stuck = (phase : Phase) × (ready m order ≡ StoppedIn phase NoRuleFits)
-IsRefused m order fault.NoMemory = Unit {0}
+IsRefused m order fault = IsRefusedBy (ready m order) fault
