@@ -1,5 +1,6 @@
 pub mod TurnLemmas
 pub mod SampleLaws
+pub mod SampleSize
 pub mod OutsideLaws
 pub mod SayingLemmas
 pub mod DeliverLemmas

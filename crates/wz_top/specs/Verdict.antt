@@ -90,9 +90,10 @@ pub record IsAccepted (bytes : List ℕ) (m : Module) : Type 0 where
   pub valid : IsValid m
   pub inside : IsInProfile m
 
--- one of the globals that go through, as the run behind the exports asks
+-- the run behind the exports gives this output with its report
 abbrev pub RunGives : Settings → List ℕ → KeptExports → Report → List ℕ → Type 0
 RunGives s bytes k said right = RunAsks s bytes k (Gives said right)
 
+-- nothing goes through
 abbrev pub NothingGoes : Settings → List ℕ → Type 0
 NothingGoes s bytes = (first : FirstModule) (reached : List Global) → GoesThrough s bytes first reached → ⊥

@@ -1,15 +1,17 @@
 //! The bytes of the input: opened and read, or made as a sample.
 
-ghost use Rattle.std.specs.Prelude.{◌≡◌, ◌≤◌, ◌<◌, ◌+◌, ℕ, List, IfOk, IsErrOf, length, Some};
+ghost use Rattle.std.specs.Prelude.{◌≡◌, ◌≤◌, ◌<◌, ◌+◌, ℕ, List, IfOk, IsErrOf};
+ghost use Rattle.std.specs.Prelude.{IsOkUnless, length, Some};
 ghost use Rattle.wz_io.specs.World.{World, HasFailed, name_of};
 ghost use Rattle.wz_io.specs.Reading.{input_limit};
 ghost use Rattle.wz_io.specs.declared.files.Side.TheVariants.{Input};
+ghost use Rattle.wz_words.specs.Faults.{sample_limit};
 ghost use Rattle.wz_gen.specs.Sample.{sample_bytes};
 ghost use Rattle.wz_top.specs.Devices.{IsInput, IsInputFrom, HasInputFailed, OnlyRead};
 ghost use Rattle.wz_top.specs.Devices.{IsReadUnless, IsSmallSample};
 ghost use Rattle.wz_top.specs.Words.{input_name};
 
-use std::alloc::Global;
+use std::alloc::{AllocError, Global};
 use wz_gen::sample;
 use wz_io::{FileName, Files, INPUT_LIMIT, OpenFault, ReadAll, laws, read_all};
 use wz_words::InputFrom;
@@ -38,23 +40,18 @@ fn fetch<F: Files>(alloc: Global, files: &mut F, name: FileName<'_>) -> Result<V
     }
 }
 
-/// The sample module of a number. None is longer than the limit; where one was, it would be
-/// refused as any input.
+/// The sample module of a number, which is never too long.
+#[tactic(auto, using(crate::proofs::SampleSize::sample_short))]
 fn draw(alloc: Global, number: u32) -> Result<Vec<u8>, ReadAll>
-    requires { number ≤ 1000000 }
+    requires { number ≤ sample_limit }
     ensures bytes { IfOk result (λ made. made.items ≡ sample_bytes number) }
     ensures within { IfOk result (λ made. length made.items ≤ input_limit) }
-    ensures too_long { IsErrOf result ReadAll.TooLong → input_limit < length (sample_bytes number) }
-    ensures well { IsErrOf result ReadAll.Failed → ⊥ }
+    ensures memory { IsOkUnless result ReadAll.NoMemory }
 {
-    laws::limit_is_named();
-    let Ok(made) = sample(alloc, number) else {
-        return Err(ReadAll::NoMemory);
-    };
-    if made.len() > INPUT_LIMIT {
-        return Err(ReadAll::TooLong);
+    match sample(alloc, number) {
+        Ok(made) => Ok(made),
+        Err(AllocError) => Err(ReadAll::NoMemory),
     }
-    Ok(made)
 }
 
 /// The bytes of the input that the settings name. A sample opens nothing.

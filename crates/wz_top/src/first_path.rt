@@ -1,13 +1,12 @@
 //! The run and the output of the modules that go through so far.
 
-ghost use Rattle.std.specs.Prelude.{◌≡◌, ◌<◌, ◌≤◌, ◌^◌, List, length, IfOk, IfSome, IsNone, IsTrue, ◌↔◌};
+ghost use Rattle.std.specs.Prelude.{◌≡◌, ◌<◌, ◌≤◌, ◌^◌, List, length, IfOk, IfSome, IsNone};
 ghost use Rattle.wz_io.specs.Reading.{input_limit};
-ghost use Rattle.wz_words.specs.Settings.{settings_of, default_fuel};
+ghost use Rattle.wz_words.specs.Settings.{settings_of};
 ghost use Rattle.wz_top.specs.Verdict.{NothingGoes, RunGives};
 ghost use Rattle.wz_top.specs.FirstWriter.{output, report};
 ghost use Rattle.wz_top.specs.FirstViews.{module_view};
-ghost use Rattle.wz_top.specs.FirstRun.{IsGoing, IsFirst};
-ghost use Rattle.wz_top.specs.FirstReading.{module_at};
+ghost use Rattle.wz_top.specs.FirstRun.{IsGoing};
 
 use crate::Report;
 use crate::first_grammar::{Global, Module};

@@ -1,5 +1,6 @@
 //! Laws of the definitions that the contract of the top call cites.
 
+ghost use Rattle.wz_top.specs.Samples.{SamplesAreShort};
 ghost use Rattle.wz_top.specs.Verdict.{OneVerdict};
 
 use wz_decode::laws as decode_laws;
@@ -14,3 +15,8 @@ pub fn bytes_ask_once()
     decode_laws::one_cause();
     valid_laws::one_cause();
 }
+
+/// No sample that words ask for is longer than the limit on inputs, so none is refused for it.
+pub fn samples_are_short()
+    ensures { SamplesAreShort }
+{}
