@@ -1,5 +1,5 @@
 -- Many steps, put together.
-use Rattle.std.proofs.Common.{◌≡◌, ◌≤◌, ◌+◌, ◌⊎◌, ℕ, zero, suc, List, [], ◌∷◌, Option, Bool, true, false, IsTrue, IsFalse, inl, inr, length, refl, ap, sym, subst, ◌∙◌, arith}
+use Rattle.std.proofs.Common.{◌≡◌, ◌≤◌, ◌<◌, ◌+◌, ◌-◌, ◌⊎◌, ℕ, zero, suc, List, [], ◌∷◌, Option, Bool, true, false, IsTrue, IsFalse, inl, inr, length, take, get_or, set, refl, ap, sym, subst, ◌∙◌, arith}
 use Rattle.wz_code.specs.declared.instr.Instr.{Instr}
 use Rattle.wz_code.specs.declared.instr.Instr.TheVariants.{Block, Loop, If}
 use Rattle.wz_code.specs.BodyParts.{BodyParts}
@@ -8,7 +8,8 @@ use Rattle.wz_store.specs.Made.{StoreState}
 use Rattle.wz_store.specs.Changes.{Change, applied}
 use Rattle.wz_machine.specs.declared.stride.Stride.TheVariants as stride
 use Rattle.wz_machine.specs.State.{State, state_of}
-use Rattle.wz_machine.specs.Terms.{Term}
+use Rattle.wz_machine.specs.Terms.{Term, Standing}
+use Rattle.wz_machine.specs.Standings.{StandingParts, standing_of, stack_of}
 use Rattle.wz_machine.specs.Outcomes.{Answer, Next}
 use Rattle.wz_machine.specs.Step.{step}
 use Rattle.wz_machine.specs.Next.{Head, head_of, next}
@@ -16,8 +17,9 @@ use Rattle.wz_machine.specs.Frames.{frame_count, local_count}
 use Rattle.wz_machine.specs.Stacks.{StackParts, stacks_term}
 use Rattle.wz_machine.specs.Straight.{changes_table}
 use Rattle.wz_machine.specs.Strides.{Gone}
-use Rattle.wz_machine.specs.Advance.{head_changes_table, StepsOn, EntersNone, Reaches, ReachesEntry, GoesNot, HaltsNext}
+use Rattle.wz_machine.specs.Advance.{head_changes_table, StandingAdvanced, StackAdvanced, StepsOn, EntersNone, Reaches, ReachesEntry, GoesNot, HaltsNext}
 use Rattle.wz_machine.proofs.ChangeLemmas.{change_reaches_state}
+use Rattle.wz_machine.proofs.StandingLemmas.{stack_top, stack_set}
 use Rattle.wz_machine.proofs.SiteLemmas.{next-head, leaf-spares}
 
 -- steps after steps
@@ -83,3 +85,19 @@ halts_after bodies m limit first term store after before now answer ran same kep
     let one : P before store = (ran, inr (inr goes)) in
     let two : P now store = subst (λ (x : StackParts). P x store) (sym same) one in
     subst (λ (y : StoreState). P now y) (sym kept) two
+
+-- the topmost term is the last of a list
+pub stack_advanced : (entered : Bool) (limit made : ℕ) (s after : State) (xs ys : List StandingParts) (before now d : StandingParts) (n : ℕ) → n ≡ length xs → 0 < n
+    → before ≡ get_or xs (n - 1) d → ys ≡ set xs (n - 1) now → StandingAdvanced entered limit made s (standing_of before) after (standing_of now)
+    → StackAdvanced entered limit made s (stack_of xs) after (stack_of ys)
+stack_advanced entered limit made s after xs ys before now d n len some is set_to advanced =
+    let positive : 0 < length xs = omega (arith, len, some) in
+    let place : n - 1 ≡ length xs - 1 = ap (λ k. k - 1) len in
+    let first : before ≡ get_or xs (length xs - 1) d = is ∙ ap (λ k. get_or xs k d) place in
+    let below : List Standing = stack_of (take (length xs - 1) xs) in
+    let was : stack_of xs ≡ standing_of before ∷ below =
+    stack_top xs d positive ∙ ap (λ (p : StandingParts). standing_of p ∷ below) (sym first) in
+    let later : stack_of ys ≡ standing_of now ∷ below =
+    ap (λ (zs : List StandingParts). stack_of zs) (set_to ∙ ap (λ k. set xs k now) place) ∙ stack_set xs now positive in
+    let P : List Standing → Type 0 = λ x. StackAdvanced entered limit made s x after (stack_of ys) in
+    subst P (sym was) (standing_of now, later, advanced)

@@ -1,13 +1,15 @@
 //! Many steps of one term at once.
 
-ghost use Rattle.std.specs.Prelude.{◌≡◌, ◌≤◌, IfOk};
+ghost use Rattle.std.specs.Prelude.{◌≡◌, length, IfOk};
 ghost use Rattle.wz_machine.specs.State.{state_of};
 ghost use Rattle.wz_machine.specs.Next.{next};
 ghost use Rattle.wz_machine.specs.Stacks.{stacks_term};
-ghost use Rattle.wz_machine.specs.Standings.{work_term, standing_of};
+ghost use Rattle.wz_machine.specs.Standings.{work_term, standing_of, stack_of};
+ghost use Rattle.wz_machine.specs.Machines.{machine_state, machine_stack};
 ghost use Rattle.wz_machine.specs.Keeping.{work_parts};
-ghost use Rattle.wz_machine.specs.Advance.{head_changes_table, IsAdvance, StandingAdvanced};
+ghost use Rattle.wz_machine.specs.Advance.{head_changes_table, IsAdvance, StandingAdvanced, StackAdvanced};
 
+use crate::machine::Machine;
 use crate::stacks::Stacks;
 use crate::standing::{Standing, Work};
 use crate::straight::is_table_change;
@@ -19,7 +21,7 @@ use wz_store::Store;
 
 /// How many steps were made, and whether the last of them entered a function.
 #[derive(Clone, Copy)]
-pub(crate) struct Advance {
+pub struct Advance {
     pub made: u64,
     pub entered: bool,
 }
@@ -147,6 +149,47 @@ impl<'m> Standing<'m> {
             });
         }
         let done = advance_work(limit, bodies, &mut self.work, store)?;
+        Ok(done)
+    }
+}
+
+/// Many steps of the topmost term; none where no term stands.
+fn advance_top<'m, M: Linear>(
+    limit: u64,
+    bodies: &'m [Body],
+    standings: &mut Vec<Standing<'m>>,
+    store: &mut Store<'m, M>,
+) -> Result<Advance, AllocError>
+    ensures advanced { IfOk result (λ done. StackAdvanced done.entered limit done.made
+        (state_of bodies.now store.old) (stack_of standings.old.items)
+        (state_of bodies.now store.new) (stack_of standings.new.items)) }
+    ensures len { length standings.new.items ≡ length standings.old.items }
+{
+    match standings.last_mut() {
+        Some(top) => {
+            let done = top.advance(limit, bodies, store)?;
+            Ok(done)
+        }
+        None => Ok(Advance {
+            made: 0,
+            entered: false,
+        }),
+    }
+}
+
+impl<'m, M: Linear> Machine<'m, M> {
+    /// Makes at most so many steps of the topmost term that plainly go on, and says how many and
+    /// whether the last of them entered a function. It ends early only there, and before a step
+    /// that changes a table or doesn't go on. An error is a want of memory, after any number of
+    /// steps.
+    pub fn advance(&mut self, limit: u64) -> Result<Advance, AllocError>
+        ensures advanced { IfOk result (λ done. StackAdvanced done.entered limit done.made
+            (machine_state self.old) (machine_stack self.old)
+            (machine_state self.new) (machine_stack self.new)) }
+        ensures bodies { self.new.bodies ≡ self.old.bodies }
+    {
+        let bodies = self.bodies;
+        let done = advance_top(limit, bodies, &mut self.standings, &mut self.store)?;
         Ok(done)
     }
 }

@@ -41,6 +41,7 @@ mod tick;
 mod turn;
 mod waiting;
 
+pub use advance::Advance;
 pub use answers::{EnterFault, GrowFault, HostFault, NotNow, Tick};
 pub use machine::Machine;
 pub use questions::{Ask, FloatReply, Growth, HostTarget};
