@@ -22,7 +22,8 @@ use Rattle.wz_machine.specs.CallSteps.{starting_locals}
 use Rattle.wz_machine.specs.Entered.{entered, entered_callable, entered_body}
 use Rattle.wz_machine.specs.Replies.{put, put_inside}
 use Rattle.wz_machine.proofs.ChangeLemmas.{change_keeps}
-use Rattle.wz_init.specs.Run.{Stop, RunEnd, Returned, Stopped, head_changes_table, too_much, within_limits, TableWouldChange, pages_together, is_granted, growth_change, growth_value, pages_at, run_question, run_on, run_from, run_standing, run}
+use Rattle.wz_machine.specs.Advance.{head_changes_table}
+use Rattle.wz_init.specs.Run.{Stop, RunEnd, Returned, Stopped, too_much, within_limits, TableWouldChange, pages_together, is_granted, growth_change, growth_value, pages_at, run_question, run_on, run_from, run_standing, run}
 use Rattle.wz_init.specs.declared.order.Phase.{Phase}
 use Rattle.wz_init.specs.Ready.{Ready, Reached, phase_end, phases_run}
 use Rattle.wz_init.specs.Reached.{IsOwn, AreOwn, InsideOwn, TermOwn, AreOwnReferences, HoldsOwn, GlobalsFit, HasSegmentsOf, IsLeftOf}
