@@ -55,7 +55,7 @@ use Rattle.wz_machine.specs.Step.{outcome_reduct, code_reduct, inside_reduct, re
 use Rattle.wz_machine.specs.Next.{head_of, head_in, next}
 use Rattle.wz_machine.proofs.LeafLemmas.{if-both}
 use Rattle.wz_init.specs.Run.{changes_table, leaf_changes_table, head_changes_table}
-use Rattle.wz_init.specs.Reached.{IsOwnReference, IsOwn, AreOwn, AreOwnReferences, HoldsOwn}
+use Rattle.wz_init.specs.Reached.{IsOwnReference, IsOwn, AreOwn, AreOwnReferences, HoldsOwn, InsideOwn, TermOwn}
 
 -- ---- what such a change is
 
@@ -89,15 +89,6 @@ OutcomeFine s (SetsLocals locals values) = AreOwn locals × AreOwn values
 OutcomeFine s (Jumps label values) = AreOwn values
 OutcomeFine s (Quits values) = AreOwn values
 OutcomeFine s (Calls count locals code values) = AreOwn locals × AreOwn values
-
-abbrev pub InsideOwn : Inside → Type 0
-InsideOwn (Innermost values code) = AreOwn values
-InsideOwn (InLabel below count again inside rest) = AreOwn below × InsideOwn inside
-InsideOwn (InFrame below count own inside rest) = AreOwn below × AreOwn own × InsideOwn inside
-
-abbrev pub TermOwn : Term → Type 0
-TermOwn (Frame count locals inside) = AreOwn locals × InsideOwn inside
-TermOwn (BareValues values) = AreOwn values
 
 abbrev pub ReductFine : State → Reduct → Type 0
 ReductFine s (Goes change locals inside) = IsFine s change × AreOwn locals × InsideOwn inside
@@ -360,7 +351,7 @@ memory_grow_fine : (s : State) (index : ℕ) (o : Option Memory) → slice_get s
 memory_grow_fine s index (Some memory) e (I32 by ∷ values) h = test (may_grow (pages_of memory) memory.maximum by) refl
   where
     test : (b : Bool) → may_grow (pages_of memory) memory.maximum by ≡ b
-      → EffectFine s (if b then Poses (AskMemory index by) values else Yields Nothing (minus_one ∷ values))
+        → EffectFine s (if b then Poses (AskMemory index by) values else Yields Nothing (minus_one ∷ values))
     test true fits = ((memory, e, fits), h.1)
     test false fits = (tt, (tt, h.1))
 memory_grow_fine s index o e values h = tt

@@ -25,8 +25,8 @@ use Rattle.wz_machine.proofs.ChangeLemmas.{change_keeps}
 use Rattle.wz_init.specs.Run.{Stop, RunEnd, Returned, Stopped, head_changes_table, too_much, within_limits, TableWouldChange, pages_together, is_granted, growth_change, growth_value, pages_at, run_question, run_on, run_from, run_standing, run}
 use Rattle.wz_init.specs.declared.order.Phase.{Phase}
 use Rattle.wz_init.specs.Ready.{Ready, Reached, phase_end, phases_run}
-use Rattle.wz_init.specs.Reached.{IsOwn, AreOwn, AreOwnReferences, HoldsOwn, GlobalsFit, HasSegmentsOf, IsLeftOf}
-use Rattle.wz_init.proofs.FineLemmas.{IsFine, InsideOwn, TermOwn, AnswerFine, step_fine, own_append, own_zeros}
+use Rattle.wz_init.specs.Reached.{IsOwn, AreOwn, InsideOwn, TermOwn, AreOwnReferences, HoldsOwn, GlobalsFit, HasSegmentsOf, IsLeftOf}
+use Rattle.wz_init.proofs.FineLemmas.{IsFine, AnswerFine, step_fine, own_append, own_zeros}
 
 -- ---- pages
 
@@ -178,7 +178,7 @@ growth_left was first s index by h = by_test (is_granted s by) refl
     by_test true granted = grown_left was first s index by h (leb-true (pages_together s.memories + by) pages_limit granted)
     by_test false granted = h
 
-growth_value_own : (s : State) (index by : ℕ) → IsOwn (growth_value s index by)
+pub growth_value_own : (s : State) (index by : ℕ) → IsOwn (growth_value s index by)
 growth_value_own s index by = by_test (is_granted s by)
   where
     by_test : (b : Bool) → IsOwn (if b then I32 (pages_at (slice_get s.memories index)) else minus_one)
@@ -194,7 +194,7 @@ abbrev StandingOwn : Standing → Type 0
 StandingOwn (Runs term) = TermOwn term
 StandingOwn (Waits question rest) = TermOwn rest
 
-put_own : (values : List Value) (term : Term) → AreOwn values → TermOwn term → TermOwn (put values term)
+pub put_own : (values : List Value) (term : Term) → AreOwn values → TermOwn term → TermOwn (put values term)
 put_own values (Frame count locals inside) h k = (k.0, put_own_inside values inside h k.1)
 put_own values (BareValues old) h k = own_append values old h k
 
@@ -308,3 +308,10 @@ own_on s change own f = record {
   globals = λ i g here. own_globals_on s change f own i g here;
   tables = subst (λ (ts : List Table). (index : ℕ) (table : Table) → slice_get ts index ≡ Some table → AreOwnReferences table.entries) (sym (same_tables s change f)) own.tables;
 }
+
+pub own_growth : (s : State) (index by : ℕ) → HoldsOwn s → HoldsOwn (applied (growth_change s index by) s)
+own_growth s index by own = by_test (is_granted s by)
+  where
+    by_test : (b : Bool) → HoldsOwn (applied (if b then GrowMemory index by else Nothing) s)
+    by_test true = record { globals = own.globals; tables = own.tables }
+    by_test false = own

@@ -8,5 +8,5 @@ pub mod FineLemmas
 pub mod LeftLemmas
 pub mod FirstLemmas
 pub mod LawLemmas
-pub mod Steps
 pub mod RunLemmas
+pub mod TurnLemmas

@@ -14,18 +14,15 @@ use Rattle.wz_machine.specs.Outcomes.{Answer, Next, Done, Trap, Ask, Stuck}
 use Rattle.wz_machine.specs.Step.{step}
 use Rattle.wz_machine.specs.Next.{next}
 use Rattle.wz_machine.specs.Frames.{frame_count, local_count}
-use Rattle.wz_init.proofs.Steps.{StepsOn, EntersNone, Reaches, ReachesEntry}
+use Rattle.wz_init.specs.Steps.{StepsOn, EntersNone, Reaches, ReachesEntry}
 use Rattle.wz_machine.specs.Replies.{put}
 use Rattle.wz_init.specs.Run.{Stop, FuelIsSpent, TableWouldChange, FramesAreTooMany, LocalsAreTooMany, Trapped, NoRuleFits, FloatIsAsked, ImportIsCalled, RunEnd, Returned, Stopped, head_changes_table, frames_limit, all_locals_limit, too_much, within_limits, growth_change, growth_value, run_question, run_on, run_from}
-use Rattle.wz_init.specs.Reached.{HoldsOwn}
-use Rattle.wz_init.proofs.FineLemmas.{IsFine, TermOwn, AnswerFine, step_fine}
+use Rattle.wz_init.specs.Reached.{HoldsOwn, TermOwn}
+use Rattle.wz_init.specs.Turns.{IsWithinLimits}
+use Rattle.wz_init.proofs.FineLemmas.{IsFine, AnswerFine, step_fine}
 use Rattle.wz_init.proofs.LeftLemmas.{own_on}
 
 -- ---- limits
-
-pub record IsWithinLimits (term : Term) : Type 0 where
-  pub frames : frame_count term ≤ frames_limit
-  pub locals : local_count term ≤ all_locals_limit
 
 pub nothing_too_much : (term : Term) → IsWithinLimits term → too_much term ≡ None
 nothing_too_much term h =
@@ -116,4 +113,9 @@ pub reaches_own : (n : ℕ) (s after : State) (term new : Term) → Reaches n s 
 reaches_own zero s after term new h own holds =
     (subst (λ (t : State). HoldsOwn t) (sym h.0) own, subst (λ (t : Term). TermOwn t) (sym h.1) holds)
 reaches_own (suc n) s after term new h own holds =
+    let before = reaches_own n s h.0 term h.1 h.2 own holds in steps_own h.0 after h.1 new h.3 before.0 before.1
+
+pub entry_own : (n : ℕ) (s after : State) (term new : Term) → ReachesEntry n s term after new → HoldsOwn s → TermOwn term → HoldsOwn after × TermOwn new
+entry_own zero s after term new h own holds = absurd h
+entry_own (suc n) s after term new h own holds =
     let before = reaches_own n s h.0 term h.1 h.2 own holds in steps_own h.0 after h.1 new h.3 before.0 before.1

@@ -9,3 +9,5 @@ pub mod Run
 pub mod Ready
 pub mod Reached
 pub mod Laws
+pub mod Steps
+pub mod Turns

@@ -9,6 +9,7 @@ use Rattle.wz_types.specs.Fits.{Fits}
 use Rattle.wz_valid.specs.Profile.{pages_limit}
 use Rattle.wz_store.specs.State.{Global, Table, Element}
 use Rattle.wz_machine.specs.State.{State, LastingParts, lasting_parts}
+use Rattle.wz_machine.specs.Terms.{Inside, Innermost, InLabel, InFrame, Term, Frame, BareValues}
 use Rattle.wz_module.specs.Module.{Module}
 use Rattle.wz_init.specs.Functions.{functions_in}
 use Rattle.wz_init.specs.Allocation.{allocated}
@@ -43,6 +44,17 @@ AreOwnReferences (reference ∷ references) = IsOwnReference reference × AreOwn
 pub record HoldsOwn (s : State) : Type 0 where
   pub globals : (index : ℕ) (global : Global) → slice_get s.globals index ≡ Some global → IsOwn global.content
   pub tables : (index : ℕ) (table : Table) → slice_get s.tables index ≡ Some table → AreOwnReferences table.entries
+
+-- ---- terms, whose values are such
+
+abbrev pub InsideOwn : Inside → Type 0
+InsideOwn (Innermost values code) = AreOwn values
+InsideOwn (InLabel below count again inside rest) = AreOwn below × InsideOwn inside
+InsideOwn (InFrame below count own inside rest) = AreOwn below × AreOwn own × InsideOwn inside
+
+abbrev pub TermOwn : Term → Type 0
+TermOwn (Frame count locals inside) = AreOwn locals × InsideOwn inside
+TermOwn (BareValues values) = AreOwn values
 
 -- each global's value fits its type
 abbrev pub GlobalsFit : State → Type 0

@@ -12,7 +12,10 @@ mod faults;
 mod instantiation;
 pub mod laws;
 mod order;
+mod run;
 mod segments;
+mod stepping;
+mod turn;
 
 pub use faults::{InitFault, StartFault};
 pub use instantiation::instantiate;

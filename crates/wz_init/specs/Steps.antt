@@ -1,5 +1,5 @@
 -- Many steps of one term that plainly go on (section 4.4 of the Core Specification), as a run makes them.
-use Rattle.std.proofs.Common.{◌≡◌, ◌≤◌, ℕ, zero, suc, IsFalse}
+use Rattle.std.specs.Prelude.{◌≡◌, ◌≤◌, ℕ, zero, suc, IsFalse}
 use Rattle.wz_store.specs.Changes.{Change, applied}
 use Rattle.wz_machine.specs.State.{State}
 use Rattle.wz_machine.specs.Terms.{Term}

@@ -1,0 +1,62 @@
+//! What a run asks of the machine that makes its ticks.
+
+ghost use Rattle.std.specs.Prelude.{◌≡◌, ◌≤◌, ◌∷◌, [], List, IfOk, OnOk};
+ghost use Rattle.wz_machine.specs.State.{State};
+ghost use Rattle.wz_machine.specs.Terms.{Standing, Runs};
+ghost use Rattle.wz_machine.specs.Next.{next};
+ghost use Rattle.wz_machine.specs.Frames.{frame_count, local_count};
+ghost use Rattle.wz_machine.specs.Replies.{put};
+ghost use Rattle.wz_store.specs.Changes.{applied};
+ghost use Rattle.wz_init.specs.Run.{head_changes_table, pages_together, is_granted, growth_change, growth_value};
+ghost use Rattle.wz_init.specs.Turns.{top_term, IsAlone, IsTicked, IsAskedHere, HasAdvanced};
+
+use crate::turn::Turned;
+use std::alloc::AllocError;
+
+/// A machine with one term.
+pub(crate) trait Steps {
+    ghost state: { Self → State };
+
+    /// The terms, the topmost first.
+    ghost stack: { Self → List Standing };
+
+    /// Whether the next tick would change a table.
+    fn would_change_table(&self) -> bool
+        requires { IsAlone (stack self.now) }
+        ensures { result ≡ head_changes_table (next (top_term (stack self.now))) };
+
+    fn tick(&mut self) -> Result<Turned, AllocError>
+        requires { IsAlone (stack self.old) }
+        ensures { IfOk result (λ turned. IsTicked (state self.old) (top_term (stack self.old))
+            turned (state self.new) (stack self.new)) };
+
+    /// Makes up to so many ticks that plainly go on, and says how many. Only the last may enter a
+    /// function.
+    fn advance(&mut self, limit: u64) -> Result<u64, AllocError>
+        requires { IsAlone (stack self.old) }
+        ensures limit { IfOk result (λ made. made ≤ limit) }
+        ensures made { IfOk result (λ made. HasAdvanced made (state self.old)
+            (top_term (stack self.old)) (state self.new) (stack self.new)) };
+
+    fn frames(&self) -> u64
+        requires { IsAlone (stack self.now) }
+        ensures { result ≡ frame_count (top_term (stack self.now)) };
+
+    fn frame_locals(&self) -> u64
+        requires { IsAlone (stack self.now) }
+        ensures { result ≡ local_count (top_term (stack self.now)) };
+
+    /// The pages of all memories together.
+    fn pages(&self) -> u64
+        ensures { result ≡ pages_together (state self.now).memories };
+
+    /// Answers the question whether a memory grows, by the rule for growth in a run.
+    fn answer_growth(&mut self, index: u32, by: u32, granted: bool) -> Result<(), AllocError>
+        requires asked { IsAskedHere (state self.old) (stack self.old) index by }
+        requires granted { granted ≡ is_granted (state self.old) by }
+        ensures state { OnOk result
+            (state self.new ≡ applied (growth_change (state self.old) index by) (state self.old)) }
+        ensures stack { OnOk result (stack self.new ≡
+            Runs (put (growth_value (state self.old) index by ∷ [])
+            (top_term (stack self.old))) ∷ []) };
+}
