@@ -10,3 +10,4 @@ pub mod FirstLemmas
 pub mod LawLemmas
 pub mod RunLemmas
 pub mod TurnLemmas
+pub mod MaximaLemmas
