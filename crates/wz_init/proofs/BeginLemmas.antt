@@ -41,7 +41,7 @@ begun law made m machine bodies store valid profile same trees kept is =
     record { first = first; reached = made m (machine_state machine) valid profile first }
 
 pub begun_sound : (m : Module) (s : State) → IsBegun m s → IsSound s
-begun_sound m s b = record { pages = b.reached.left.pages; fitting = b.reached.left.fitting; own = b.reached.left.own }
+begun_sound m s b = record { pages = b.reached.left.pages; sizes = b.reached.left.sizes; fitting = b.reached.left.fitting; own = b.reached.left.own }
 
 pub begun_ended : (m : Module) (s : State) (stack : List Standing) → IsBegun m s → stack ≡ [] → HasEnded s stack
 begun_ended m s stack b empty = record { own = b.reached.left.own; empty = empty }

@@ -14,3 +14,4 @@ pub mod PhaseLemmas
 pub mod TickingLemmas
 pub mod SmallLemmas
 pub mod BeginLemmas
+pub mod MaximaLemmas

@@ -26,13 +26,14 @@ itself s h = record {
   tables = refl;
   segments = record { elements = λ i e here. inl here; datas = λ i b here. inl here };
   pages = h.pages;
+  sizes = h.sizes;
   fitting = h.fitting;
   own = h.own;
 }
 
 pub sound_on : (s : State) (function fuel ticks : ℕ) (last : State) (left made : ℕ) → IsSound s → run s function fuel ticks ≡ Returned last left made → IsSound last
 sound_on s function fuel ticks last left made h e =
-    let kept = run_left s s s function fuel ticks last left made (itself s h) e in record { pages = kept.pages; fitting = kept.fitting; own = kept.own }
+    let kept = run_left s s s function fuel ticks last left made (itself s h) e in record { pages = kept.pages; sizes = kept.sizes; fitting = kept.fitting; own = kept.own }
 
 pub small_on : (s : State) (function fuel ticks : ℕ) (last : State) (left made : ℕ) → IsSound s → FunctionsAreSmall s → run s function fuel ticks ≡ Returned last left made
     → FunctionsAreSmall last

@@ -21,7 +21,7 @@ run_term-requires g c =
       alone = entry_is.2;
       within = c.requires.small c.args.function (top_term stack) entry_is.0;
       own = subst (λ (x : State). HoldsOwn x) (sym entry_is.1) c.requires.ended.own;
-      holds = entered_own (callable_at s.types s.functions c.args.function) (Runs (top_term stack)) entry_is.0;
+      holds = entered_own s (callable_at s.types s.functions c.args.function) (Runs (top_term stack)) entry_is.0;
     }
 
 pub returns-in-Own-clause-returned : goal.returns-in-Own-clause-returned
