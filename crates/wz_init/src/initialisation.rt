@@ -23,14 +23,7 @@ use std::alloc::Global;
 use wz_linear::Linear;
 use wz_machine::Machine;
 use wz_module::Module;
-use wz_store::Store;
-
-/// What the initialisation of a module leaves: its instance, behind so many ticks.
-#[derive(Drop)]
-pub struct Reached<'m, M: Linear> {
-    pub store: Store<'m, M>,
-    pub ticks: u64,
-}
+use wz_store::{Reached, Store};
 
 /// A module without a fresh instance is never ready.
 fn never_ready(fault: StartFault) -> InitFault

@@ -21,6 +21,6 @@ mod ticking;
 mod turn;
 
 pub use faults::{InitFault, StartFault};
-pub use initialisation::{Reached, initialise};
+pub use initialisation::initialise;
 pub use instantiation::instantiate;
 pub use order::{Phase, RunOrder};
