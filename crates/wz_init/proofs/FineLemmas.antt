@@ -54,7 +54,8 @@ use Rattle.wz_machine.specs.BlockSteps.{block_type, label_types, block_entry, if
 use Rattle.wz_machine.specs.Step.{outcome_reduct, code_reduct, inside_reduct, results_answer, frame_answer, step}
 use Rattle.wz_machine.specs.Next.{head_of, head_in, next}
 use Rattle.wz_machine.proofs.LeafLemmas.{if-both}
-use Rattle.wz_init.specs.Run.{changes_table, leaf_changes_table, head_changes_table}
+use Rattle.wz_machine.specs.Straight.{changes_table}
+use Rattle.wz_machine.specs.Advance.{leaf_changes_table, head_changes_table}
 use Rattle.wz_init.specs.Reached.{IsOwnReference, IsOwn, AreOwn, AreOwnReferences, HoldsOwn, InsideOwn, TermOwn}
 
 -- ---- what such a change is

@@ -1,6 +1,6 @@
 -- What a module's fresh instance holds: the module's parts, fitting values, and no reference to something of the host.
 use Rattle.std.proofs.Common.{◌≡◌, ℕ, zero, suc, ◌+◌, ◌*◌, ◌≤◌, ◌⊎◌, inl, inr, List, [], ◌∷◌, ◌++◌, Option, Some, None, Bool, true, false, ◌&&◌, if◌then◌else◌, length, map, take, drop, replicate, slice_get, option_map, option_and_then, refl, sym, ap, subst, ◌∙◌, arith}
-use Rattle.std.proofs.Common.{leb-true, lt-ltb, nat_lt, ◌^◌}
+use Rattle.std.proofs.Common.{leb-true, lt-ltb, nat_lt, ◌^◌, ◌<◌, IsSomeAnd}
 use Rattle.std.specs.List.{All, sum_by}
 use Rattle.std.proofs.Math.ListN.{length-replicate, length-map}
 use Rattle.std.proofs.lemmas.List.Elements.{All-head, All-tail}
@@ -51,12 +51,14 @@ use Rattle.wz_valid.specs.Items.{IsGlobalOk, IsElemOk}
 use Rattle.wz_init.proofs.ConstantLemmas.{ReadsNone, if_leads, pushes, from_leads, one_more, left_type, along, may_refer_there, reference_value, reads_no_global, as_many_functions}
 use Rattle.wz_init.proofs.ModuleLemmas.{reads_none, globals_read_none, own_memories}
 use Rattle.wz_init.proofs.FreshLemmas.{WasAllocated, was_allocated, same_state}
-use Rattle.wz_init.proofs.LeftLemmas.{segments_kept, same_pages, phases_left}
+use Rattle.wz_valid.specs.Limits.{IsMemoryOk}
+use Rattle.wz_init.proofs.MaximaLemmas.{new_within}
+use Rattle.wz_init.proofs.LeftLemmas.{segments_kept, same_pages, same_maxima, phases_left}
 use Rattle.wz_init.proofs.FineLemmas.{part_short}
 use Rattle.wz_init.specs.Run.{pages_together}
 use Rattle.wz_linear.specs.Bytes.{part}
 use Rattle.wz_types.specs.declared.trap.TrapKind.TheVariants.{TableBounds}
-use Rattle.wz_init.specs.Reached.{IsOwn, IsOwnReference, AreOwnReferences, GlobalsFit, HasSegmentsOf, IsLeftOf, IsReachedOf, lasting_of}
+use Rattle.wz_init.specs.Reached.{IsOwn, IsOwnReference, AreOwnReferences, GlobalsFit, HasSegmentsOf, AreWithinMaxima, IsLeftOf, IsReachedOf, lasting_of}
 use Rattle.wz_init.specs.declared.order.RunOrder.{RunOrder}
 use Rattle.wz_init.specs.Ready.{Reached, phases, ready_from, ready}
 
@@ -217,6 +219,7 @@ pub record IsFirst (was s : State) : Type 0 where
   pub tables : (index : ℕ) (table : Table) → slice_get s.tables index ≡ Some table → AreOwnReferences table.entries
   pub elements : (index : ℕ) (element : Element) → slice_get s.elements index ≡ Some element → AreOwnReferences element.items
   pub pages : pages_together s.memories ≤ pages_limit
+  pub sizes : AreWithinMaxima s.memories
 
 IsFirstChange : State → Change → Type 0
 IsFirstChange s Nothing = ⊥
@@ -259,6 +262,7 @@ first_on was s (WriteTable index at entries) h f = record {
   tables = entries_own s.tables index at entries h.tables f;
   elements = h.elements;
   pages = h.pages;
+  sizes = h.sizes;
 }
 first_on was s (WriteMemory index at bytes) h f = record {
   lasting = change_keeps (WriteMemory index at bytes) s ∙ h.lasting;
@@ -268,6 +272,7 @@ first_on was s (WriteMemory index at bytes) h f = record {
   tables = h.tables;
   elements = h.elements;
   pages = subst (λ (n : ℕ). n ≤ pages_limit) (sym (same_pages s (WriteMemory index at bytes) f)) h.pages;
+  sizes = same_maxima s (WriteMemory index at bytes) f h.sizes;
 }
 first_on was s (GrowTable index by reference) h f = absurd f
 first_on was s (GrowMemory index by) h f = absurd f
@@ -279,6 +284,7 @@ first_on was s (EmptyElement index) h f = record {
   tables = h.tables;
   elements = emptied_own s.elements index h.elements;
   pages = h.pages;
+  sizes = h.sizes;
 }
 first_on was s (EmptyData index) h f = record {
   lasting = change_keeps (EmptyData index) s ∙ h.lasting;
@@ -288,6 +294,7 @@ first_on was s (EmptyData index) h f = record {
   tables = h.tables;
   elements = h.elements;
   pages = h.pages;
+  sizes = h.sizes;
 }
 
 IsFirstEffect : State → BulkEffect → Type 0
@@ -431,9 +438,9 @@ few_pages m profile =
     subst (λ (n : ℕ). n ≤ pages_limit) (sym (new_pages m.memories))
     (subst (λ (ms : List MemType). sum_by (λ memory. memory.limits.min) ms ≤ pages_limit) (own_memories m profile) profile.memories)
 
-was_first : (m : Module) (s : State) → IsInProfile m → All (λ g. IsGlobalOk m g) m.globals → All (λ e. IsElemOk m e) m.elements → WasAllocated m (functions_in m) s
+was_first : (m : Module) (s : State) → IsInProfile m → ((i : ℕ) → i < length m.memories → IsSomeAnd (slice_get m.memories i) IsMemoryOk) → All (λ g. IsGlobalOk m g) m.globals → All (λ e. IsElemOk m e) m.elements → WasAllocated m (functions_in m) s
     → IsFirst s s
-was_first m s profile globals elements was =
+was_first m s profile sizes globals elements was =
     let all = each_from (λ g. first_global m g) (λ g. IsGlobalOk m g) (λ g. Fits g.content g.type.value (length (functions_in m)) (length m.types) × IsOwn g.content)
     (λ def g fine e. one_global m def g profile fine e) m.globals globals was.globals was.first in
     let items = each_from (λ e. first_element m e) (λ e. IsElemOk m e) (λ e. AreOwnReferences e.items) (λ x e fine h. one_element m x e profile fine h) m.elements elements
@@ -447,6 +454,7 @@ was_first m s profile globals elements was =
       tables = new_tables_own m.tables;
       elements = items;
       pages = few_pages m profile;
+      sizes = new_within m.memories sizes;
     } in
     subst (λ (t : State). IsFirst t t) (sym was.is) first
 
@@ -525,6 +533,7 @@ first_again m first was is = record {
   tables = refl;
   segments = was.left.segments;
   pages = was.left.pages;
+  sizes = was.left.sizes;
   fitting = was.left.fitting;
   own = was.left.own;
 }
@@ -537,11 +546,11 @@ some_state m s e = by (allocated m (functions_in m)) e
     by None e = absurd (cc e)
     by (Some was) e = (was, refl, e)
 
-pub fresh_left : (m : Module) (s : State) → IsInProfile m → All (λ g. IsGlobalOk m g) m.globals → All (λ e. IsElemOk m e) m.elements → fresh m ≡ Instance s → IsReachedOf m s
-fresh_left m s profile globals elements e =
+pub fresh_left : (m : Module) (s : State) → IsInProfile m → ((i : ℕ) → i < length m.memories → IsSomeAnd (slice_get m.memories i) IsMemoryOk) → All (λ g. IsGlobalOk m g) m.globals → All (λ e. IsElemOk m e) m.elements → fresh m ≡ Instance s → IsReachedOf m s
+fresh_left m s profile sizes globals elements e =
     let made = some_state m s e in
     let was = was_allocated m (functions_in m) made.0 made.1 in
-    let first = segments_first made.0 m made.0 s (was_first m made.0 profile globals elements was) made.2 in
+    let first = segments_first made.0 m made.0 s (was_first m made.0 profile sizes globals elements was) made.2 in
     record {
       written = made.0;
       first = s;
@@ -553,19 +562,20 @@ fresh_left m s profile globals elements e =
         tables = refl;
         segments = first.segments;
         pages = first.pages;
+        sizes = first.sizes;
         fitting = first.fitting;
         own = record { globals = first.globals; tables = first.tables };
       };
     }
 
-pub ready_left : (m : Module) (order : RunOrder) (s : State) (ticks : ℕ) → IsInProfile m → All (λ g. IsGlobalOk m g) m.globals → All (λ e. IsElemOk m e) m.elements
+pub ready_left : (m : Module) (order : RunOrder) (s : State) (ticks : ℕ) → IsInProfile m → ((i : ℕ) → i < length m.memories → IsSomeAnd (slice_get m.memories i) IsMemoryOk) → All (λ g. IsGlobalOk m g) m.globals → All (λ e. IsElemOk m e) m.elements
     → ready m order ≡ Reached s ticks → IsReachedOf m s
 unfolding ready
-ready_left m order s ticks profile globals elements e = by (fresh m) refl e
+ready_left m order s ticks profile sizes globals elements e = by (fresh m) refl e
   where
     by : (f : Fresh) → fresh m ≡ f → ready_from m order f ≡ Reached s ticks → IsReachedOf m s
     by (Instance first) is e =
-        let was = fresh_left m first profile globals elements is in
+        let was = fresh_left m first profile sizes globals elements is in
         let left = phases_left was.written first (phases m.start order) first order.fuel 0 s ticks (first_again m first was is) e in
         record {
           written = was.written;

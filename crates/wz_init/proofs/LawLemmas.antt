@@ -1,8 +1,14 @@
 -- The laws.
-use Rattle.std.proofs.Common.{◌≡◌, List, [], ◌∷◌, Option, Some, None, map, slice_get, option_map, refl, sym, ap, ◌∙◌}
+use Rattle.std.proofs.Common.{◌≡◌, ℕ, ◌<◌, IsSomeAnd, length, List, [], ◌∷◌, Option, Some, None, map, slice_get, option_map, refl, sym, ap, ◌∙◌}
 use Rattle.std.proofs.lemmas.Option.{slice_get-map}
 use Rattle.wz_code.specs.BodyParts.{BodyParts}
 use Rattle.wz_module.specs.Functions.{BodyTree, body_tree_of}
+use Rattle.wz_types.specs.declared.types.MemType.{MemType}
+use Rattle.wz_module.specs.Module.{Module}
+use Rattle.wz_valid.specs.declared.faults.Part.TheVariants as part
+use Rattle.wz_valid.specs.Limits.{IsMemoryOk}
+use Rattle.wz_valid.specs.Items.{IsOnlyMemory}
+use Rattle.wz_valid.specs.Validity.{IsValid}
 use Rattle.wz_valid.specs.Laws.{GlobalsAreOk, ElementsAreOk}
 use Rattle.wz_store.specs.declared.function.Function.{Function}
 use Rattle.wz_store.specs.declared.function.Function.TheVariants as stored
@@ -11,11 +17,19 @@ use Rattle.wz_init.specs.Functions.{body_of_tree, function_in}
 use Rattle.wz_init.specs.Laws.{FreshIsReached, RunIsReached, StateByBodies}
 use Rattle.wz_init.proofs.FirstLemmas.{fresh_left, ready_left}
 
+-- the memories of a valid module
+memories_ok : (m : Module) → IsValid m → (i : ℕ) → i < length m.memories → IsSomeAnd (slice_get m.memories i) IsMemoryOk
+memories_ok m valid i less = by (slice_get m.memories i) (valid part.Memory i less)
+  where
+    by : (o : Option MemType) → IsSomeAnd o (λ memory. IsMemoryOk memory × IsOnlyMemory m i) → IsSomeAnd o IsMemoryOk
+    by None h = h
+    by (Some memory) h = h.0
+
 pub fresh_is_reached : GlobalsAreOk → ElementsAreOk → FreshIsReached
-fresh_is_reached globals elements m s valid profile e = fresh_left m s profile (globals m valid) (elements m valid) e
+fresh_is_reached globals elements m s valid profile e = fresh_left m s profile (memories_ok m valid) (globals m valid) (elements m valid) e
 
 pub run_is_reached : GlobalsAreOk → ElementsAreOk → RunIsReached
-run_is_reached globals elements m order s ticks valid profile e = ready_left m order s ticks profile (globals m valid) (elements m valid) e
+run_is_reached globals elements m order s ticks valid profile e = ready_left m order s ticks profile (memories_ok m valid) (globals m valid) (elements m valid) e
 
 body_same : (o : Option BodyParts) → body_of_tree (option_map body_tree_of o) ≡ body_from o
 body_same None = refl

@@ -1,6 +1,8 @@
 -- What a run keeps of the state that it began with.
 use Rattle.std.proofs.Common.{◌≡◌, ℕ, zero, suc, ◌+◌, ◌*◌, ◌/◌, ◌≤◌, ◌⊎◌, inl, inr, List, [], ◌∷◌, ◌++◌, Option, Some, None, Bool, true, false, if◌then◌else◌, length, take, drop, replicate, slice_get, refl, sym, ap, subst, ◌∙◌, arith, length-append, length-drop}
 use Rattle.std.proofs.Common.{leb-true}
+use Rattle.std.specs.Prelude.{IfSome}
+use Rattle.wz_store.specs.Growth.{may_grow}
 use Rattle.std.proofs.lemmas.List.Sums.{sum_by-cons}
 use Rattle.std.proofs.Math.ListN.{length-replicate}
 use Rattle.wz_types.specs.declared.value.Value.{Value}
@@ -22,11 +24,13 @@ use Rattle.wz_machine.specs.CallSteps.{starting_locals}
 use Rattle.wz_machine.specs.Entered.{entered, entered_callable, entered_body}
 use Rattle.wz_machine.specs.Replies.{put, put_inside}
 use Rattle.wz_machine.proofs.ChangeLemmas.{change_keeps}
-use Rattle.wz_init.specs.Run.{Stop, RunEnd, Returned, Stopped, head_changes_table, too_much, within_limits, TableWouldChange, pages_together, is_granted, growth_change, growth_value, pages_at, run_question, run_on, run_from, run_standing, run}
+use Rattle.wz_machine.specs.Advance.{head_changes_table}
+use Rattle.wz_init.specs.Run.{Stop, RunEnd, Returned, Stopped, too_much, within_limits, TableWouldChange, pages_together, is_granted, growth_change, growth_value, pages_at, run_question, run_on, run_from, run_standing, run}
 use Rattle.wz_init.specs.declared.order.Phase.{Phase}
 use Rattle.wz_init.specs.Ready.{Ready, Reached, phase_end, phases_run}
-use Rattle.wz_init.specs.Reached.{IsOwn, AreOwn, InsideOwn, TermOwn, AreOwnReferences, HoldsOwn, GlobalsFit, HasSegmentsOf, IsLeftOf}
-use Rattle.wz_init.proofs.FineLemmas.{IsFine, AnswerFine, step_fine, own_append, own_zeros}
+use Rattle.wz_init.specs.Reached.{IsOwn, AreOwn, InsideOwn, TermOwn, AreOwnReferences, HoldsOwn, GlobalsFit, HasSegmentsOf, AreWithinMaxima, IsLeftOf}
+use Rattle.wz_init.proofs.MaximaLemmas.{within_altered, may_grow_within}
+use Rattle.wz_init.proofs.FineLemmas.{IsFine, IsAsked, AnswerFine, step_fine, own_append, own_zeros}
 
 -- ---- pages
 
@@ -141,6 +145,20 @@ lasting_sizes s now h = (ap (λ (p : LastingParts). length p.functions) h, ap (�
 refit : (value : Value) (type : _) (a b c d : ℕ) → a ≡ c → b ≡ d → Fits value type c d → Fits value type a b
 refit value type a b c d e e' h = subst (λ (n : ℕ). Fits value type n b) (sym e) (subst (λ (n : ℕ). Fits value type c n) (sym e') h)
 
+pub same_maxima : (s : State) (change : Change) → IsFine s change → AreWithinMaxima s.memories → AreWithinMaxima (applied change s).memories
+same_maxima s Nothing f h = h
+same_maxima s (SetGlobal index value) f h = h
+same_maxima s (WriteTable index at entries) f h = absurd f
+same_maxima s (WriteMemory index at bytes) f h =
+    within_altered (λ memory. with_bytes at bytes memory) s.memories index
+    (λ m here within.
+    subst (λ (n : ℕ). IfSome m.maximum (λ max. n ≤ max)) (sym (ap (λ (n : ℕ). n / page_size) (written_length m.bytes bytes at (f m here)))) within)
+    h
+same_maxima s (GrowTable index by reference) f h = absurd f
+same_maxima s (GrowMemory index by) f h = absurd f
+same_maxima s (EmptyElement index) f h = h
+same_maxima s (EmptyData index) f h = h
+
 pub left_on : (was first s : State) (change : Change) → IsLeftOf was first s → IsFine s change → IsLeftOf was first (applied change s)
 left_on was first s change h f =
     let sizes = lasting_sizes s (applied change s) (change_keeps change s) in
@@ -149,6 +167,7 @@ left_on was first s change h f =
       tables = same_tables s change f ∙ h.tables;
       segments = segments_kept was s change h.segments;
       pages = subst (λ (n : ℕ). n ≤ pages_limit) (sym (same_pages s change f)) h.pages;
+      sizes = same_maxima s change f h.sizes;
       fitting = λ i g here.
           refit g.content g.type.value (length (applied change s).functions) (length (applied change s).types) (length s.functions) (length s.types) sizes.0 sizes.1
           (globals_kept s change f h.fitting h.own i g here).0;
@@ -160,22 +179,27 @@ left_on was first s change h f =
 
 -- ---- growth that is granted
 
-grown_left : (was first s : State) (index by : ℕ) → IsLeftOf was first s → pages_together s.memories + by ≤ pages_limit
+grown_left : (was first s : State) (index by : ℕ) → IsLeftOf was first s → IsAsked s (AskMemory index by) → pages_together s.memories + by ≤ pages_limit
     → IsLeftOf was first (applied (GrowMemory index by) s)
-grown_left was first s index by h room = record {
+grown_left was first s index by h asked room = record {
   lasting = change_keeps (GrowMemory index by) s ∙ h.lasting;
   tables = h.tables;
   segments = record { elements = h.segments.elements; datas = h.segments.datas };
   pages = omega (arith, pages_grown (λ memory. with_more_pages by memory) s.memories index by (λ m. more_pages m by), room);
+  sizes = within_altered (λ memory. with_more_pages by memory) s.memories index
+      (λ m here within.
+      let same : asked.0 ≡ m = cc (asked.1, here) in
+      let may = subst (λ (x : Memory). may_grow (pages_of x) x.maximum by ≡ true) same asked.2 in
+      may_grow_within m.maximum (pages_of m) by (pages_of (with_more_pages by m)) may (more_pages m by)) h.sizes;
   fitting = h.fitting;
   own = record { globals = h.own.globals; tables = h.own.tables };
 }
 
-growth_left : (was first s : State) (index by : ℕ) → IsLeftOf was first s → IsLeftOf was first (applied (growth_change s index by) s)
-growth_left was first s index by h = by_test (is_granted s by) refl
+growth_left : (was first s : State) (index by : ℕ) → IsLeftOf was first s → IsAsked s (AskMemory index by) → IsLeftOf was first (applied (growth_change s index by) s)
+growth_left was first s index by h asked = by_test (is_granted s by) refl
   where
     by_test : (b : Bool) → is_granted s by ≡ b → IsLeftOf was first (applied (if b then GrowMemory index by else Nothing) s)
-    by_test true granted = grown_left was first s index by h (leb-true (pages_together s.memories + by) pages_limit granted)
+    by_test true granted = grown_left was first s index by h asked (leb-true (pages_together s.memories + by) pages_limit granted)
     by_test false granted = h
 
 pub growth_value_own : (s : State) (index by : ℕ) → IsOwn (growth_value s index by)
@@ -190,9 +214,9 @@ put_own_inside values (Innermost old code) h k = own_append values old h k
 put_own_inside values (InLabel below count again inside rest) h k = (k.0, put_own_inside values inside h k.1)
 put_own_inside values (InFrame below count own inside rest) h k = (k.0, k.1, put_own_inside values inside h k.2)
 
-abbrev pub StandingOwn : Standing → Type 0
-StandingOwn (Runs term) = TermOwn term
-StandingOwn (Waits question rest) = TermOwn rest
+abbrev pub StandingFine : State → Standing → Type 0
+StandingFine s (Runs term) = TermOwn term
+StandingFine s (Waits question rest) = IsAsked s question × TermOwn rest
 
 pub put_own : (values : List Value) (term : Term) → AreOwn values → TermOwn term → TermOwn (put values term)
 put_own values (Frame count locals inside) h k = (k.0, put_own_inside values inside h k.1)
@@ -205,14 +229,14 @@ abbrev Leads : State → State → (State → Term → RunEnd) → State → ℕ
 Leads was first on last fuel ticks = (s : State) (term : Term) → IsLeftOf was first s → TermOwn term → on s term ≡ Returned last fuel ticks → IsLeftOf was first last
 
 question_left : (was first : State) (on : State → Term → RunEnd) (last : State) (fuel ticks : ℕ) → Leads was first on last fuel ticks → (s : State) (rest : Term) (q : Question)
-    → IsLeftOf was first s → TermOwn rest → run_question on s rest q ≡ Returned last fuel ticks → IsLeftOf was first last
-question_left was first on last fuel ticks lead s rest (AskFloat op operands) h k e = absurd (cc e)
-question_left was first on last fuel ticks lead s rest (AskMemory index by) h k e =
-    lead (applied (growth_change s index by) s) (put (growth_value s index by ∷ []) rest) (growth_left was first s index by h)
+    → IsLeftOf was first s → IsAsked s q → TermOwn rest → run_question on s rest q ≡ Returned last fuel ticks → IsLeftOf was first last
+question_left was first on last fuel ticks lead s rest (AskFloat op operands) h asked k e = absurd (cc e)
+question_left was first on last fuel ticks lead s rest (AskMemory index by) h asked k e =
+    lead (applied (growth_change s index by) s) (put (growth_value s index by ∷ []) rest) (growth_left was first s index by h asked)
     (put_own (growth_value s index by ∷ []) rest (growth_value_own s index by, tt) k) e
-question_left was first on last fuel ticks lead s rest (AskTable index by reference) h k e = absurd (cc e)
-question_left was first on last fuel ticks lead s rest (AskHost (target.Import number) arguments type) h k e = absurd (cc e)
-question_left was first on last fuel ticks lead s rest (AskHost (target.Foreign id) arguments type) h k e = absurd (cc e)
+question_left was first on last fuel ticks lead s rest (AskTable index by reference) h asked k e = absurd (cc e)
+question_left was first on last fuel ticks lead s rest (AskHost (target.Import number) arguments type) h asked k e = absurd (cc e)
+question_left was first on last fuel ticks lead s rest (AskHost (target.Foreign id) arguments type) h asked k e = absurd (cc e)
 
 answer_left : (was first : State) (on : State → Term → RunEnd) (last : State) (fuel ticks left made : ℕ) → Leads was first on last fuel ticks → (s : State) (a : Answer)
     → IsLeftOf was first s → AnswerFine s a → run_on on left made s a ≡ Returned last fuel ticks → IsLeftOf was first last
@@ -224,7 +248,7 @@ answer_left was first on last fuel ticks left made lead s (Next change term) h k
 answer_left was first on last fuel ticks left made lead s (Done values) h k e =
     let same : s ≡ last = cc e in subst (λ (t : State). IsLeftOf was first t) same h
 answer_left was first on last fuel ticks left made lead s (Trap kind) h k e = absurd (cc e)
-answer_left was first on last fuel ticks left made lead s (Ask question rest) h k e = question_left was first on last fuel ticks lead s rest question h k.1 e
+answer_left was first on last fuel ticks left made lead s (Ask question rest) h k e = question_left was first on last fuel ticks lead s rest question h k.0 k.1 e
 answer_left was first on last fuel ticks left made lead s Stuck h k e = absurd (cc e)
 
 first_left : (was first : State) (left made : ℕ) (s : State) (term : Term) (last : State) (fuel ticks : ℕ)
@@ -246,31 +270,31 @@ run_from_left was first (suc left) made s term last fuel ticks h k e =
 -- ---- the run of a function, and of all phases
 
 standing_left : (was first : State) (left made : ℕ) (s : State) (o : Option Standing) (last : State) (fuel ticks : ℕ) → IsLeftOf was first s
-    → ((standing : Standing) → o ≡ Some standing → StandingOwn standing) → run_standing left made s o ≡ Returned last fuel ticks → IsLeftOf was first last
+    → ((standing : Standing) → o ≡ Some standing → StandingFine s standing) → run_standing left made s o ≡ Returned last fuel ticks → IsLeftOf was first last
 standing_left was first left made s None last fuel ticks h own e = absurd (cc e)
 standing_left was first left made s (Some (Runs term)) last fuel ticks h own e = run_from_left was first left made s term last fuel ticks h (own (Runs term) refl) e
 standing_left was first left made s (Some (Waits question rest)) last fuel ticks h own e =
     question_left was first (λ now new. run_from left made now new) last fuel ticks (λ now new h k e. run_from_left was first left made now new last fuel ticks h k e) s rest
-    question h (own (Waits question rest) refl) e
+    question h (own (Waits question rest) refl).0 (own (Waits question rest) refl).1 e
 
-pub entered_own : (o : Option Callable) (standing : Standing) → entered_callable o [] ≡ Some standing → StandingOwn standing
-entered_own None standing e = absurd (cc e)
-entered_own (Some function) standing e = by function.body e
+pub entered_own : (s : State) (o : Option Callable) (standing : Standing) → entered_callable o [] ≡ Some standing → StandingFine s standing
+entered_own s None standing e = absurd (cc e)
+entered_own s (Some function) standing e = by function.body e
   where
-    by : (body : FunctionBody) → entered_body function.type body [] ≡ Some standing → StandingOwn standing
+    by : (body : FunctionBody) → entered_body function.type body [] ≡ Some standing → StandingFine s standing
     by (OwnBody locals code) e =
         let same : Runs (Frame (length function.type.results) (starting_locals locals []) (Innermost [] code)) ≡ standing = cc e in
-        subst (λ (x : Standing). StandingOwn x) same (own_zeros locals, tt)
+        subst (λ (x : Standing). StandingFine s x) same (own_zeros locals, tt)
     by (ImportedBody number) e =
         let same : Waits (AskHost (target.Import number) [] function.type) (BareValues []) ≡ standing = cc e in
-        subst (λ (x : Standing). StandingOwn x) same tt
+        subst (λ (x : Standing). StandingFine s x) same (tt, tt)
     by NoBody e = absurd (cc e)
 
 pub run_left : (was first s : State) (function left made : ℕ) (last : State) (fuel ticks : ℕ) → IsLeftOf was first s → run s function left made ≡ Returned last fuel ticks
     → IsLeftOf was first last
 unfolding run
 run_left was first s function left made last fuel ticks h e =
-    standing_left was first left made s (entered s function []) last fuel ticks h (λ standing is. entered_own (callable_at s.types s.functions function) standing is) e
+    standing_left was first left made s (entered s function []) last fuel ticks h (λ standing is. entered_own s (callable_at s.types s.functions function) standing is) e
 
 phase_left : (was first : State) (phase : Phase) (later : State → ℕ → ℕ → Ready) (last : State) (ticks : ℕ) (e : RunEnd)
     → ((now : State) (fuel made : ℕ) → e ≡ Returned now fuel made → later now fuel made ≡ Reached last ticks → IsLeftOf was first last)

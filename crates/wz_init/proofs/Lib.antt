@@ -11,3 +11,7 @@ pub mod LawLemmas
 pub mod RunLemmas
 pub mod TurnLemmas
 pub mod PhaseLemmas
+pub mod TickingLemmas
+pub mod SmallLemmas
+pub mod BeginLemmas
+pub mod MaximaLemmas

@@ -1,7 +1,7 @@
 -- The run of one phase is the head of the run of all.
 use Rattle.std.proofs.Common.{◌≡◌, ℕ, List, [], ◌∷◌, Result, Ok, Err, IfOk, IfErr, inl, refl, sym, ap, ◌∙◌}
 use Rattle.wz_types.specs.FunctionType.{FunctionType}
-use Rattle.wz_machine.specs.State.{State, LastingParts, FunctionInstance, callable_at}
+use Rattle.wz_machine.specs.State.{State, LastingParts, FunctionInstance, Callable, callable_at}
 use Rattle.wz_machine.specs.Entered.{entered, entered_callable}
 use Rattle.wz_init.specs.declared.order.Phase.{Phase}
 use Rattle.wz_init.specs.declared.faults.InitFault.{InitFault}
@@ -9,7 +9,7 @@ use Rattle.wz_init.specs.declared.faults.InitFault.TheVariants as fault
 use Rattle.wz_init.specs.Run.{Trapped, RunEnd, Returned, run}
 use Rattle.wz_init.specs.Ready.{Reached, StoppedIn, phase_end, phases_run, IsRefusedBy}
 use Rattle.wz_init.specs.Reached.{IsLeftOf, IsSound}
-use Rattle.wz_init.specs.Turns.{FunctionsAreSmall, StopsBy}
+use Rattle.wz_init.specs.Turns.{FunctionsAreSmall, KeepsTakingNothing, StopsBy}
 use Rattle.wz_init.proofs.LeftLemmas.{run_left}
 
 pub ok_on : {T E : Type 0} (r : Result T E) (P Q : T → Type 0) → ((v : T) → P v → Q v) → IfOk r P → IfOk r Q
@@ -26,13 +26,14 @@ itself s h = record {
   tables = refl;
   segments = record { elements = λ i e here. inl here; datas = λ i b here. inl here };
   pages = h.pages;
+  sizes = h.sizes;
   fitting = h.fitting;
   own = h.own;
 }
 
 pub sound_on : (s : State) (function fuel ticks : ℕ) (last : State) (left made : ℕ) → IsSound s → run s function fuel ticks ≡ Returned last left made → IsSound last
 sound_on s function fuel ticks last left made h e =
-    let kept = run_left s s s function fuel ticks last left made (itself s h) e in record { pages = kept.pages; fitting = kept.fitting; own = kept.own }
+    let kept = run_left s s s function fuel ticks last left made (itself s h) e in record { pages = kept.pages; sizes = kept.sizes; fitting = kept.fitting; own = kept.own }
 
 pub small_on : (s : State) (function fuel ticks : ℕ) (last : State) (left made : ℕ) → IsSound s → FunctionsAreSmall s → run s function fuel ticks ≡ Returned last left made
     → FunctionsAreSmall last
@@ -43,6 +44,16 @@ small_on s function fuel ticks last left made h small e =
     ap (λ (fs : List FunctionInstance). entered_callable (callable_at last.types fs f) []) (ap (λ (p : LastingParts). p.functions) kept.lasting)
     ∙ ap (λ (ts : List FunctionType). entered_callable (callable_at ts s.functions f) []) (ap (λ (p : LastingParts). p.types) kept.lasting) in
     small f term (sym same ∙ is)
+
+pub taken_on : (s : State) (function fuel ticks : ℕ) (last : State) (left made : ℕ) → IsSound s → run s function fuel ticks ≡ Returned last left made
+    → KeepsTakingNothing s last
+taken_on s function fuel ticks last left made h e =
+    let kept = run_left s s s function fuel ticks last left made (itself s h) e in
+    λ f takes callable is.
+    let same : callable_at last.types last.functions f ≡ callable_at s.types s.functions f =
+    ap (λ (fs : List FunctionInstance). callable_at last.types fs f) (ap (λ (p : LastingParts). p.functions) kept.lasting)
+    ∙ ap (λ (ts : List FunctionType). callable_at ts s.functions f) (ap (λ (p : LastingParts). p.types) kept.lasting) in
+    takes callable (sym same ∙ is)
 
 pub phase_returns : (phase : Phase) (function : ℕ) (later : List (Phase × ℕ)) (s : State) (fuel ticks : ℕ) (last : State) (left made : ℕ)
     → run s function fuel ticks ≡ Returned last left made → phases_run ((phase, function) ∷ later) s fuel ticks ≡ phases_run later last left made

@@ -9,9 +9,9 @@ use Rattle.wz_machine.specs.Outcomes.{Answer, Next}
 use Rattle.wz_machine.specs.Step.{step}
 use Rattle.wz_machine.specs.Next.{next}
 use Rattle.wz_machine.specs.Frames.{frame_count, local_count}
-use Rattle.wz_init.specs.Steps.{StepsOn, Reaches, ReachesEntry}
+use Rattle.wz_machine.specs.Advance.{head_changes_table, StepsOn, Reaches, ReachesEntry}
 use Rattle.wz_machine.specs.Entered.{entered}
-use Rattle.wz_init.specs.Run.{Stop, FuelIsSpent, TableWouldChange, FramesAreTooMany, LocalsAreTooMany, NoRuleFits, ImportIsCalled, Stopped, head_changes_table, frames_limit, all_locals_limit, too_much, within_limits, run_on, run_from, run_standing, run}
+use Rattle.wz_init.specs.Run.{Stop, FuelIsSpent, TableWouldChange, FramesAreTooMany, LocalsAreTooMany, NoRuleFits, ImportIsCalled, Stopped, frames_limit, all_locals_limit, too_much, within_limits, run_on, run_from, run_standing, run}
 use Rattle.wz_init.specs.Reached.{HoldsOwn, TermOwn}
 use Rattle.wz_init.specs.Turns.{IsWithinLimits}
 use Rattle.wz_init.proofs.FineLemmas.{AnswerFine, step_fine}

@@ -16,7 +16,7 @@ use Rattle.wz_machine.specs.Frames.{frames_inside, locals_inside, frame_count, l
 use Rattle.wz_machine.specs.Replies.{put, put_inside}
 use Rattle.wz_machine.proofs.LeafLemmas.{if-both}
 use Rattle.wz_types.specs.declared.value.Value.TheVariants.{I32}
-use Rattle.wz_init.specs.Run.{Stop, FramesAreTooMany, LocalsAreTooMany, RunEnd, Returned, Stopped, head_changes_table, TableWouldChange, Trapped, NoRuleFits, FloatIsAsked, ImportIsCalled, too_much, within_limits, growth_change, growth_value, run_from}
+use Rattle.wz_init.specs.Run.{Stop, FramesAreTooMany, LocalsAreTooMany, RunEnd, Returned, Stopped, TableWouldChange, Trapped, NoRuleFits, FloatIsAsked, ImportIsCalled, too_much, within_limits, growth_change, growth_value, run_from}
 use Rattle.wz_code.specs.declared.numeric.NumOp.{NumOp}
 use Rattle.wz_machine.specs.declared.questions.HostTarget.TheVariants as target
 use Rattle.wz_init.specs.declared.turn.Turned.TheVariants as turned
@@ -27,7 +27,7 @@ use Rattle.wz_init.specs.Reached.{HoldsOwn, TermOwn}
 use Rattle.wz_init.specs.Turns.{top_term, IsWithinLimits, IsTicked, StopsBy, IsRunning, HasEnded, IsAskedHere, IsBeyond, HasAdvanced}
 use Rattle.wz_init.proofs.FineLemmas.{AnswerFine, step_fine}
 use Rattle.wz_init.proofs.LeftLemmas.{own_on, own_growth, put_own, growth_value_own}
-use Rattle.wz_init.specs.Steps.{Reaches, ReachesEntry}
+use Rattle.wz_machine.specs.Advance.{head_changes_table, Reaches, ReachesEntry}
 use Rattle.wz_init.proofs.RunLemmas.{nothing_too_much, run_step, reaches_within, reaches_run, entry_run, reaches_own, entry_own}
 
 -- ---- a question leaves frames and locals as they are

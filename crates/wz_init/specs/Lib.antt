@@ -9,5 +9,6 @@ pub mod Run
 pub mod Ready
 pub mod Reached
 pub mod Laws
-pub mod Steps
+pub mod Events
+pub mod Orders
 pub mod Turns

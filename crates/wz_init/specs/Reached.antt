@@ -1,13 +1,13 @@
 -- What the run of a module's functions keeps of its fresh instance. This is the tool's own: a run changes no table, and its memories are
 -- limited together.
-use Rattle.std.specs.Prelude.{◌≡◌, ℕ, ◌≤◌, ◌⊎◌, List, [], ◌∷◌, Some, length, map, slice_get}
+use Rattle.std.specs.Prelude.{◌≡◌, ℕ, ◌≤◌, ◌⊎◌, List, [], ◌∷◌, Some, length, map, slice_get, IfSome}
 use Rattle.wz_types.specs.declared.value.Reference.{Reference}
 use Rattle.wz_types.specs.declared.value.Reference.TheVariants.{Null, Fn, Foreign}
 use Rattle.wz_types.specs.declared.value.Value.{Value}
 use Rattle.wz_types.specs.declared.value.Value.TheVariants.{I32, I64, F32, F64, Ref}
 use Rattle.wz_types.specs.Fits.{Fits}
 use Rattle.wz_valid.specs.Profile.{pages_limit}
-use Rattle.wz_store.specs.State.{Global, Table, Element}
+use Rattle.wz_store.specs.State.{Global, Table, Memory, Element, pages_of}
 use Rattle.wz_machine.specs.State.{State, LastingParts, lasting_parts}
 use Rattle.wz_machine.specs.Terms.{Inside, Innermost, InLabel, InFrame, Term, Frame, BareValues}
 use Rattle.wz_module.specs.Module.{Module}
@@ -61,6 +61,13 @@ abbrev pub GlobalsFit : State → Type 0
 GlobalsFit s = (index : ℕ) (global : Global) → slice_get s.globals index ≡ Some global
     → Fits global.content global.type.value (length s.functions) (length s.types)
 
+-- a memory has no more pages than its maximum
+abbrev pub IsWithinMaximum : Memory → Type 0
+IsWithinMaximum memory = IfSome memory.maximum (λ max. pages_of memory ≤ max)
+
+abbrev pub AreWithinMaxima : List Memory → Type 0
+AreWithinMaxima memories = (index : ℕ) (memory : Memory) → slice_get memories index ≡ Some memory → IsWithinMaximum memory
+
 -- ---- what a run keeps
 
 -- each segment is as it was written, or empty
@@ -75,12 +82,14 @@ pub record IsLeftOf (written first now : State) : Type 0 where
   pub tables : now.tables ≡ first.tables
   pub segments : HasSegmentsOf written now
   pub pages : pages_together now.memories ≤ pages_limit
+  pub sizes : AreWithinMaxima now.memories
   pub fitting : GlobalsFit now
   pub own : HoldsOwn now
 
 -- what it takes for a state to be left of itself
 pub record IsSound (s : State) : Type 0 where
   pub pages : pages_together s.memories ≤ pages_limit
+  pub sizes : AreWithinMaxima s.memories
   pub fitting : GlobalsFit s
   pub own : HoldsOwn s
 

@@ -6,9 +6,6 @@ use Rattle.wz_types.specs.declared.trap.TrapKind.{TrapKind}
 use Rattle.wz_types.specs.declared.value.Value.{Value}
 use Rattle.wz_types.specs.declared.value.Value.TheVariants.{I32}
 use Rattle.wz_code.specs.declared.numeric.NumOp.{NumOp}
-use Rattle.wz_code.specs.declared.instr.Instr.{Instr}
-use Rattle.wz_code.specs.declared.instr.Instr.TheVariants.{TableSet, TableInit, TableCopy, TableGrow, TableFill}
-use Rattle.wz_code.specs.Trees.{Leaf, Plain, TableBranch, TypedSelect}
 use Rattle.wz_valid.specs.Profile.{pages_limit}
 use Rattle.wz_store.specs.State.{Memory, pages_of}
 use Rattle.wz_store.specs.Changes.{Change, Nothing, GrowMemory, applied}
@@ -18,7 +15,8 @@ use Rattle.wz_machine.specs.Terms.{Term, Question, AskFloat, AskMemory, AskTable
 use Rattle.wz_machine.specs.Outcomes.{Answer, Next, Done, Trap, Ask, Stuck}
 use Rattle.wz_machine.specs.BulkSteps.{minus_one}
 use Rattle.wz_machine.specs.Step.{step}
-use Rattle.wz_machine.specs.Next.{Head, LeafHead, BlockHead, LoopHead, IfHead, next}
+use Rattle.wz_machine.specs.Next.{next}
+use Rattle.wz_machine.specs.Advance.{head_changes_table}
 use Rattle.wz_machine.specs.Frames.{frame_count, local_count}
 use Rattle.wz_machine.specs.Entered.{entered}
 use Rattle.wz_machine.specs.Replies.{put}
@@ -38,28 +36,6 @@ pub data RunEnd : Type 0 where
   -- the state, the fuel that is left, and the ticks that were made
   Returned : State → ℕ → ℕ → RunEnd
   Stopped : Stop → RunEnd
-
--- ---- what is refused before it is done: instructions that change a table
-
-abbrev pub changes_table : Instr → Bool
-changes_table (TableSet table) = true
-changes_table (TableInit segment table) = true
-changes_table (TableCopy to from) = true
-changes_table (TableGrow table) = true
-changes_table (TableFill table) = true
-changes_table instr = false
-
-abbrev pub leaf_changes_table : Leaf → Bool
-leaf_changes_table (Plain instr) = changes_table instr
-leaf_changes_table (TableBranch labels last) = false
-leaf_changes_table (TypedSelect types) = false
-
-abbrev pub head_changes_table : Option Head → Bool
-head_changes_table None = false
-head_changes_table (Some (LeafHead leaf)) = leaf_changes_table leaf
-head_changes_table (Some (BlockHead shape)) = false
-head_changes_table (Some (LoopHead shape)) = false
-head_changes_table (Some (IfHead shape)) = false
 
 -- ---- limits on what a step comes to: the frames that there are at one time, and the locals of all of them
 

@@ -1,11 +1,11 @@
 -- One turn of a run: what a tick of a machine is to the run of its term. This is the tool's own.
-use Rattle.std.specs.Prelude.{◌≡◌, ◌≤◌, ◌⊎◌, slice_get, ℕ, suc, ◌+◌, ◌-◌, ◌<◌, List, [], ◌∷◌, Some, None, Bool, true, false}
+use Rattle.std.specs.Prelude.{Option, ◌≡◌, ◌≤◌, ◌⊎◌, slice_get, ℕ, suc, ◌+◌, ◌-◌, ◌<◌, List, [], ◌∷◌, Some, None, Bool, true, false}
 use Rattle.wz_types.specs.declared.value.Value.{Value}
 use Rattle.wz_types.specs.declared.value.Reference.{Reference}
 use Rattle.wz_types.specs.FunctionType.{FunctionType}
 use Rattle.wz_store.specs.Changes.{Change, applied}
 use Rattle.wz_machine.specs.declared.questions.HostTarget.TheVariants as target
-use Rattle.wz_machine.specs.State.{State}
+use Rattle.wz_machine.specs.State.{State, Callable, callable_at}
 use Rattle.wz_machine.specs.Terms.{Term, BareValues, AskFloat, AskMemory, AskTable, AskHost, Standing, Runs, Waits}
 use Rattle.wz_machine.specs.Outcomes.{Next, Done, Trap, Ask, Stuck}
 use Rattle.wz_machine.specs.Step.{step}
@@ -18,11 +18,12 @@ use Rattle.wz_init.specs.declared.turn.Entered.TheVariants as entry
 use Rattle.wz_init.specs.declared.turn.Round.{Round}
 use Rattle.wz_init.specs.declared.turn.Round.TheVariants as round
 use Rattle.wz_init.specs.declared.order.Phase.{Phase}
+use Rattle.wz_init.specs.declared.order.RunOrder.{RunOrder}
 use Rattle.wz_init.specs.declared.faults.InitFault.{InitFault}
 use Rattle.wz_init.specs.declared.faults.InitFault.TheVariants as fault
 use Rattle.wz_init.specs.Run.{FuelIsSpent, TableWouldChange, FramesAreTooMany, LocalsAreTooMany, Trapped, NoRuleFits, FloatIsAsked, ImportIsCalled, RunEnd, Returned, Stopped, frames_limit, all_locals_limit, too_much, run_from}
 use Rattle.wz_init.specs.Reached.{HoldsOwn, TermOwn}
-use Rattle.wz_init.specs.Steps.{Reaches, ReachesEntry}
+use Rattle.wz_machine.specs.Advance.{Reaches, ReachesEntry}
 use Rattle.wz_store.specs.State.{Memory, pages_of}
 use Rattle.wz_store.specs.Growth.{may_grow}
 
@@ -88,6 +89,25 @@ IsEntered s function entry.Missing after stack = entered s function [] ≡ None
 -- each function's term begins within the limits
 abbrev pub FunctionsAreSmall : State → Type 0
 FunctionsAreSmall s = (function : ℕ) (term : Term) → entered s function [] ≡ Some (Runs term) → IsWithinLimits term
+
+-- a function without parameters, where it is there
+abbrev pub TakesNothing : State → ℕ → Type 0
+TakesNothing s function = (callable : Callable) → callable_at s.types s.functions function ≡ Some callable → callable.type.params ≡ []
+
+-- the same of a phase's function, if it has one
+abbrev pub PhaseTakesNothing : State → Option ℕ → Type 0
+PhaseTakesNothing s None = Unit {0}
+PhaseTakesNothing s (Some function) = TakesNothing s function
+
+-- and of all phases
+pub record PhasesTakeNothing (s : State) (start : Option ℕ) (order : RunOrder) : Type 0 where
+  pub start_phase : PhaseTakesNothing s start
+  pub reactor_phase : PhaseTakesNothing s order.reactor
+  pub init_phase : TakesNothing s order.function
+
+-- what took nothing takes nothing afterwards
+abbrev pub KeepsTakingNothing : State → State → Type 0
+KeepsTakingNothing s after = (function : ℕ) → TakesNothing s function → TakesNothing after function
 
 -- ---- the machine, from turn to turn
 

@@ -9,6 +9,7 @@
 mod allocation;
 mod constants;
 mod faults;
+mod initialisation;
 mod instantiation;
 pub mod laws;
 mod order;
@@ -16,8 +17,10 @@ mod phases;
 mod run;
 mod segments;
 mod stepping;
+mod ticking;
 mod turn;
 
 pub use faults::{InitFault, StartFault};
+pub use initialisation::initialise;
 pub use instantiation::instantiate;
 pub use order::{Phase, RunOrder};

@@ -4,7 +4,8 @@ ghost use Rattle.std.specs.Prelude.{◌≡◌, ◌≤◌, ◌+◌, ◌-◌, ◌+
 ghost use Rattle.wz_init.specs.declared.order.Phase.{Phase};
 ghost use Rattle.wz_init.specs.Reached.{IsSound};
 ghost use Rattle.wz_init.specs.Ready.{Reached, IsRefusedBy, phase_of, phases, phases_run};
-ghost use Rattle.wz_init.specs.Turns.{HasEnded, FunctionsAreSmall};
+ghost use Rattle.wz_init.specs.Turns.{HasEnded, FunctionsAreSmall, PhaseTakesNothing};
+ghost use Rattle.wz_init.specs.Turns.{PhasesTakeNothing, KeepsTakingNothing};
 
 use crate::faults::InitFault;
 use crate::order::{Phase, RunOrder};
@@ -21,10 +22,14 @@ fn run_phase<S: Steps>(
     requires ended { HasEnded (S.state machine.old) (S.stack machine.old) }
     requires sound { IsSound (S.state machine.old) }
     requires small { FunctionsAreSmall (S.state machine.old) }
+    requires takes { PhaseTakesNothing (S.state machine.old) function }
+    ensures bodies { OnOk result (S.bodies machine.new ≡ S.bodies machine.old) }
     ensures left { IfOk result (λ left. left ≤ fuel) }
     ensures ended { OnOk result (HasEnded (S.state machine.new) (S.stack machine.new)) }
     ensures sound { OnOk result (IsSound (S.state machine.new)) }
     ensures small { OnOk result (FunctionsAreSmall (S.state machine.new)) }
+    ensures taken { OnOk result
+        (KeepsTakingNothing (S.state machine.old) (S.state machine.new)) }
     ensures returned { (ticks : ℕ) (later : List (Phase × ℕ)) → IfOk result (λ left.
         phases_run (phase_of phase function ++ later) (S.state machine.old) fuel ticks
         ≡ phases_run later (S.state machine.new) left (ticks + (fuel - left))) }
@@ -49,6 +54,8 @@ pub(crate) fn run_phases<S: Steps>(
     requires ended { HasEnded (S.state machine.old) (S.stack machine.old) }
     requires sound { IsSound (S.state machine.old) }
     requires small { FunctionsAreSmall (S.state machine.old) }
+    requires takes { PhasesTakeNothing (S.state machine.old) start order.now }
+    ensures bodies { OnOk result (S.bodies machine.new ≡ S.bodies machine.old) }
     ensures reached { IfOk result (λ ticks.
         phases_run (phases start order.now) (S.state machine.old) order.now.fuel 0
         ≡ Reached (S.state machine.new) ticks) }

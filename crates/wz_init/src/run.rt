@@ -8,7 +8,7 @@ ghost use Rattle.wz_machine.specs.Replies.{put};
 ghost use Rattle.wz_init.specs.Run.{Returned, growth_change, growth_value, run_from, run};
 ghost use Rattle.wz_init.specs.Turns.{top_term, IsAlone, IsWithinLimits, IsRunning, HasEnded};
 ghost use Rattle.wz_init.specs.Turns.{IsAskedHere, IsBeyond, IsTurned, IsRound, StopsBy};
-ghost use Rattle.wz_init.specs.Turns.{FunctionsAreSmall};
+ghost use Rattle.wz_init.specs.Turns.{FunctionsAreSmall, TakesNothing};
 
 use crate::faults::InitFault;
 use crate::order::Phase;
@@ -46,6 +46,7 @@ fn grow<S: Steps>(machine: &mut S, index: u32, by: u32) -> Result<(), InitFault>
     ensures stack { OnOk result (S.stack machine.new ≡
         Runs (put (growth_value (S.state machine.old) index by ∷ [])
         (top_term (S.stack machine.old))) ∷ []) }
+    ensures bodies { OnOk result (S.bodies machine.new ≡ S.bodies machine.old) }
     ensures refused { IfErr result (λ fault. fault ≡ InitFault.NoMemory) }
 {
     let pages = machine.pages();
@@ -61,6 +62,7 @@ fn turn<S: Steps>(machine: &mut S, phase: Phase) -> Result<bool, InitFault>
         (IsRunning (S.state machine.new) (S.stack machine.new))) }
     ensures ended { IfOk result (λ on. OnFalse on
         (HasEnded (S.state machine.new) (S.stack machine.new))) }
+    ensures bodies { OnOk result (S.bodies machine.new ≡ S.bodies machine.old) }
     ensures turned { (fuel ticks : ℕ) → IfOk result (λ on. IsTurned on (S.state machine.old)
         (top_term (S.stack machine.old)) (S.state machine.new) (S.stack machine.new)
         fuel ticks) }
@@ -94,6 +96,7 @@ fn turn<S: Steps>(machine: &mut S, phase: Phase) -> Result<bool, InitFault>
 fn round<S: Steps>(machine: &mut S, phase: Phase, fuel: u64) -> Result<Round, InitFault>
     requires running { IsRunning (S.state machine.old) (S.stack machine.old) }
     requires some { 0 < fuel }
+    ensures bodies { OnOk result (S.bodies machine.new ≡ S.bodies machine.old) }
     ensures went { IfOk result (λ round. IsRound round fuel (S.state machine.old)
         (top_term (S.stack machine.old)) (S.state machine.new) (S.stack machine.new)) }
     ensures stopped { (ticks : ℕ) → IfErr result (λ fault. StopsBy phase
@@ -117,6 +120,7 @@ fn round<S: Steps>(machine: &mut S, phase: Phase, fuel: u64) -> Result<Round, In
 /// Runs the only term to its end, and gives the fuel that is left.
 pub(crate) fn run_term<S: Steps>(machine: &mut S, phase: Phase, fuel: u64) -> Result<u64, InitFault>
     requires { IsRunning (S.state machine.old) (S.stack machine.old) }
+    ensures bodies { OnOk result (S.bodies machine.new ≡ S.bodies machine.old) }
     ensures left { IfOk result (λ left. left ≤ fuel) }
     ensures ended { OnOk result (HasEnded (S.state machine.new) (S.stack machine.new)) }
     ensures returned { (ticks : ℕ) → IfOk result (λ left.
@@ -145,6 +149,8 @@ pub(crate) fn run_function<S: Steps>(
 ) -> Result<u64, InitFault>
     requires ended { HasEnded (S.state machine.old) (S.stack machine.old) }
     requires small { FunctionsAreSmall (S.state machine.old) }
+    requires takes { TakesNothing (S.state machine.old) function }
+    ensures bodies { OnOk result (S.bodies machine.new ≡ S.bodies machine.old) }
     ensures left { IfOk result (λ left. left ≤ fuel) }
     ensures ended { OnOk result (HasEnded (S.state machine.new) (S.stack machine.new)) }
     ensures returned { (ticks : ℕ) → IfOk result (λ left.

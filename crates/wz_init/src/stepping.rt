@@ -1,15 +1,17 @@
 //! What a run asks of the machine that makes its ticks.
 
 ghost use Rattle.std.specs.Prelude.{◌≡◌, ◌≤◌, ◌∷◌, [], List, IfOk, OnOk};
+ghost use Rattle.wz_code.specs.BodyParts.{BodyParts};
 ghost use Rattle.wz_machine.specs.State.{State};
 ghost use Rattle.wz_machine.specs.Terms.{Standing, Runs};
 ghost use Rattle.wz_machine.specs.Next.{next};
+ghost use Rattle.wz_machine.specs.Advance.{head_changes_table};
 ghost use Rattle.wz_machine.specs.Frames.{frame_count, local_count};
 ghost use Rattle.wz_machine.specs.Replies.{put};
 ghost use Rattle.wz_store.specs.Changes.{applied};
-ghost use Rattle.wz_init.specs.Run.{head_changes_table, pages_together, is_granted, growth_change, growth_value};
+ghost use Rattle.wz_init.specs.Run.{pages_together, is_granted, growth_change, growth_value};
 ghost use Rattle.wz_init.specs.Turns.{top_term, IsAlone, IsEntered, IsTicked, IsAskedHere};
-ghost use Rattle.wz_init.specs.Turns.{HasAdvanced};
+ghost use Rattle.wz_init.specs.Turns.{HasAdvanced, TakesNothing};
 
 use crate::turn::{Entered, Turned};
 use std::alloc::AllocError;
@@ -21,11 +23,16 @@ pub(crate) trait Steps {
     /// The terms, the topmost first.
     ghost stack: { Self → List Standing };
 
+    /// What the module's own functions do.
+    ghost bodies: { Self → List BodyParts };
+
     /// Puts the term of a function that takes nothing on the empty stack.
     fn enter(&mut self, function: u32) -> Result<Entered, AllocError>
-        requires { stack self.old ≡ [] }
-        ensures { IfOk result (λ entered. IsEntered (state self.old) function entered
-            (state self.new) (stack self.new)) };
+        requires empty { stack self.old ≡ [] }
+        requires takes { TakesNothing (state self.old) function }
+        ensures entered { IfOk result (λ entered. IsEntered (state self.old) function entered
+            (state self.new) (stack self.new)) }
+        ensures bodies { OnOk result (bodies self.new ≡ bodies self.old) };
 
     /// Whether the next tick would change a table.
     fn would_change_table(&self) -> bool
@@ -34,8 +41,9 @@ pub(crate) trait Steps {
 
     fn tick(&mut self) -> Result<Turned, AllocError>
         requires { IsAlone (stack self.old) }
-        ensures { IfOk result (λ turned. IsTicked (state self.old) (top_term (stack self.old))
-            turned (state self.new) (stack self.new)) };
+        ensures ticked { IfOk result (λ turned. IsTicked (state self.old)
+            (top_term (stack self.old)) turned (state self.new) (stack self.new)) }
+        ensures bodies { OnOk result (bodies self.new ≡ bodies self.old) };
 
     /// Makes up to so many ticks that plainly go on, and says how many. Only the last may enter a
     /// function.
@@ -43,7 +51,8 @@ pub(crate) trait Steps {
         requires { IsAlone (stack self.old) }
         ensures limit { IfOk result (λ made. made ≤ limit) }
         ensures made { IfOk result (λ made. HasAdvanced made (state self.old)
-            (top_term (stack self.old)) (state self.new) (stack self.new)) };
+            (top_term (stack self.old)) (state self.new) (stack self.new)) }
+        ensures bodies { OnOk result (bodies self.new ≡ bodies self.old) };
 
     fn frames(&self) -> u64
         requires { IsAlone (stack self.now) }
@@ -65,5 +74,6 @@ pub(crate) trait Steps {
             (state self.new ≡ applied (growth_change (state self.old) index by) (state self.old)) }
         ensures stack { OnOk result (stack self.new ≡
             Runs (put (growth_value (state self.old) index by ∷ [])
-            (top_term (stack self.old))) ∷ []) };
+            (top_term (stack self.old))) ∷ []) }
+        ensures bodies { OnOk result (bodies self.new ≡ bodies self.old) };
 }

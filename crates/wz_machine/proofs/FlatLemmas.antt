@@ -17,11 +17,11 @@ use Rattle.wz_machine.proofs.ContextLemmas.{step_within}
 -- ---- parts of the list of values
 
 -- a front of what has the same longer front
-take-front : (n k : ℕ) (xs ys : List Value) → n ≤ k → take k xs ≡ take k ys → take n xs ≡ take n ys
+pub take-front : (n k : ℕ) (xs ys : List Value) → n ≤ k → take k xs ≡ take k ys → take n xs ≡ take n ys
 take-front n k xs ys le e = sym (take-take n k xs le) ∙ ap (λ (zs : List Value). take n zs) e ∙ take-take n k ys le
 
 -- the locals are the same where all below the own values is
-locals-front : (opened : Opened) (k : ℕ) (xs ys : List Value) → opened.locals_at ≤ opened.locals_end → opened.locals_end ≤ k → take k xs ≡ take k ys
+pub locals-front : (opened : Opened) (k : ℕ) (xs ys : List Value) → opened.locals_at ≤ opened.locals_end → opened.locals_end ≤ k → take k xs ≡ take k ys
     → locals_in opened xs ≡ locals_in opened ys
 locals-front opened k xs ys start end e =
     let n : ℕ = opened.locals_at in
@@ -39,7 +39,7 @@ own-append opened below carried le =
 
 -- ---- the code that is left of the innermost block is no part of what is around it
 
-moved-term : (opened : Opened) (rest : Code) (outer : List Opened) (below : List Value) (content : FrameContent)
+pub moved-term : (opened : Opened) (rest : Code) (outer : List Opened) (below : List Value) (content : FrameContent)
     → term_in (results_of opened outer) (layers_of opened outer below) content
     ≡ term_in (results_of (record opened { rest = rest }) outer) (layers_of (record opened { rest = rest }) outer below) content
 moved-term opened rest [] below content = refl

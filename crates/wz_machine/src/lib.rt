@@ -13,7 +13,35 @@
 //! `TypedLaws` that it stays so and is never stuck.
 #![tactic(auto)]
 
+mod advance;
+mod answers;
+mod asking;
+mod blocks;
+mod branches;
+mod callee;
+mod calls;
+mod control;
+mod counts;
+mod growing;
+mod indirect;
 pub mod laws;
+mod machine;
+mod operands;
+mod peek;
+mod plain;
+mod plain_turn;
 mod questions;
+mod room;
+mod run;
+mod stacks;
+mod standing;
+mod straight;
+mod stride;
+mod tick;
+mod turn;
+mod waiting;
 
-pub use questions::{FloatReply, Growth, HostTarget};
+pub use advance::Advance;
+pub use answers::{EnterFault, GrowFault, HostFault, NotNow, Tick};
+pub use machine::Machine;
+pub use questions::{Ask, FloatReply, Growth, HostTarget};

@@ -12,3 +12,15 @@ pub mod LookupLemmas
 pub mod OrderLemmas
 pub mod ContentLemmas
 pub mod SpellLaws
+pub mod NumberLemmas
+pub mod ValidLemmas
+pub mod ItemLemmas
+pub mod ConstantLemmas
+pub mod SizeLemmas
+pub mod ElementLemmas
+pub mod SlotLemmas
+pub mod BodyLemmas
+pub mod ContextLemmas
+pub mod StartLemmas
+pub mod StateLemmas
+pub mod TestLemmas

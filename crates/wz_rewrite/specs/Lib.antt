@@ -10,3 +10,4 @@ pub mod Laws
 pub mod Gathering
 pub mod Views
 pub mod Sources
+pub mod ValidOutput

@@ -3,6 +3,7 @@
 
 ghost use Rattle.wz_rewrite.specs.Laws.{PiecesAreOutput, PiecesAreChosen, PiecesAreKept};
 ghost use Rattle.wz_rewrite.specs.Laws.{OutputSpells, InputSpellsElements, InputIsInOrder};
+ghost use Rattle.wz_rewrite.specs.ValidOutput.{StateHasTypes, OutputIsValid, HasNoStartSection};
 
 /// The pieces, with each range read from its memory, are the output's bytes; their ranges are the
 /// chosen ones; and what they have of the input is just the contents that stay.
@@ -22,4 +23,21 @@ pub fn output_is_spelled()
 pub fn input_is_spelled()
     ensures elements { InputSpellsElements }
     ensures order { InputIsInOrder }
+{}
+
+/// The output of a valid module within the profile is one too. It has the kept exports, and
+/// nothing runs when it starts: of no module does the output have a start section.
+pub fn output_is_valid()
+    ensures valid { OutputIsValid }
+    ensures sections { HasNoStartSection }
+{
+    // each function that a body names is named elsewhere in the output, or declared anew
+    wz_exports::laws::references_are_found();
+}
+
+/// What is recorded of a state is what a valid output asks for, where the state's globals and
+/// memories have the module's types: values that fit, none of them the host's, and sizes within
+/// the maxima and the profile.
+pub fn state_has_types()
+    ensures { StateHasTypes }
 {}

@@ -32,3 +32,6 @@ mod sources;
 pub use output::Output;
 pub use piece::Piece;
 pub use preparing::prepare;
+
+#[cfg(test)]
+mod tests;

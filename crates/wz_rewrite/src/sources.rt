@@ -32,7 +32,7 @@ pub(crate) struct Sources<'p, 'a> {
 }
 
 /// Whether there is no section with this id.
-fn lacks(sections: &[Section<'_>], id: u8) -> bool
+pub(crate) fn lacks(sections: &[Section<'_>], id: u8) -> bool
     ensures { result ≡ lacks id (map section_of sections.now) }
 {
     for section in sections {

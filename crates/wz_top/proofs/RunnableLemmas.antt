@@ -17,7 +17,7 @@ use Rattle.wz_valid.specs.Indices.{function_import, imported_functions, all_func
 use Rattle.wz_valid.specs.Contexts.{context_of}
 use Rattle.wz_words.specs.Settings.{Settings}
 use Rattle.wz_init.specs.declared.order.RunOrder.{RunOrder}
-use Rattle.wz_top.specs.Orders.{IsPlainFunction, IsPlainWhereGiven, IsRunnable}
+use Rattle.wz_init.specs.Orders.{IsPlainFunction, IsPlainWhereGiven, IsRunnable}
 use Rattle.wz_top.specs.Verdict.{order_of}
 use Rattle.wz_exports.specs.declared.fault.ExportFault.{ExportFault}
 use Rattle.wz_exports.specs.Functions.{import_signature, signatures_of, signature_at, is_empty_type, takes_nothing}

@@ -9,4 +9,3 @@ pub mod Verdict
 pub mod Asked
 pub mod Samples
 pub mod Making
-pub mod Orders

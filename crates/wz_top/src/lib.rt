@@ -14,7 +14,6 @@ mod making;
 mod outcome;
 mod pieces;
 mod refusals;
-mod stand_in;
 #[cfg(test)]
 mod tests;
 mod texts;

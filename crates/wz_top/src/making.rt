@@ -11,11 +11,10 @@ ghost use Rattle.wz_top.specs.Words.{output_name};
 
 use crate::deliver::deliver;
 use crate::refusals::{export_outcome, init_outcome};
-use crate::stand_in::initialise;
 use crate::{Outcome, Report};
 use std::alloc::{AllocError, Global};
 use wz_exports::{Kept, keep};
-use wz_init::RunOrder;
+use wz_init::{RunOrder, initialise};
 use wz_io::{FileName, Files, OpenFault};
 use wz_module::Module;
 use wz_paged::PagedMemory;

@@ -2,8 +2,8 @@ use Rattle.std.proofs.Common.{◌≡◌, ◌-◌, ◌+◌, ◌∷◌, ◌++◌, 
 use Rattle.wz_init.specs.Reached.{IsSound}
 use Rattle.wz_init.specs.Run.{Returned, run}
 use Rattle.wz_init.specs.Ready.{phase_of, phases_run, IsRefusedBy}
-use Rattle.wz_init.specs.Turns.{FunctionsAreSmall, StopsBy}
-use Rattle.wz_init.proofs.PhaseLemmas.{ok_on, err_on, sound_on, small_on, phase_returns, phase_stops}
+use Rattle.wz_init.specs.Turns.{FunctionsAreSmall, KeepsTakingNothing, StopsBy}
+use Rattle.wz_init.proofs.PhaseLemmas.{ok_on, err_on, sound_on, small_on, taken_on, phase_returns, phase_stops}
 use Rattle.wz_init.proofs.phases.run_phase.Goals as goal
 
 pub returns-in-Some-clause-sound : goal.returns-in-Some-clause-sound
@@ -43,3 +43,11 @@ returns-in-Some-clause-stopped g c =
     (err_on c.run_function.result (λ fault. StopsBy c.args.phase (run s c.in-Some.function fuel ticks) fault)
     (λ fault. IsRefusedBy (phases_run ((c.args.phase, c.in-Some.function) ∷ later) s fuel ticks) fault)
     (λ fault h. phase_stops c.args.phase c.in-Some.function later s fuel ticks fault h) (c.run_function.ensures.stopped ticks))
+
+pub returns-in-Some-clause-taken : goal.returns-in-Some-clause-taken
+returns-in-Some-clause-taken g c =
+    let s = g.S.Steps.state c.args.machine.now in
+    let last = g.S.Steps.state c.run_function.new.machine in
+    let fuel = c.args.fuel in
+    ok_on c.run_function.result (λ left. run s c.in-Some.function fuel 0 ≡ Returned last left (0 + (fuel - left))) (λ left. KeepsTakingNothing s last)
+    (λ left ran. taken_on s c.in-Some.function fuel 0 last left (0 + (fuel - left)) c.requires.sound ran) (c.run_function.ensures.returned 0)

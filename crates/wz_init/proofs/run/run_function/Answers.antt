@@ -16,12 +16,12 @@ run_term-requires g c =
     let after = g.S.Steps.state c.enter.new.self in
     let stack = g.S.Steps.stack c.enter.new.self in
     let entry_is : IsEntered s c.args.function entry.Own after stack =
-    subst (λ (e : Entered). IsEntered s c.args.function e after stack) c.in-Own.is c.in_ok-enter.ensures in
+    subst (λ (e : Entered). IsEntered s c.args.function e after stack) c.in-Own.is c.in_ok-enter.ensures.entered in
     record {
       alone = entry_is.2;
       within = c.requires.small c.args.function (top_term stack) entry_is.0;
       own = subst (λ (x : State). HoldsOwn x) (sym entry_is.1) c.requires.ended.own;
-      holds = entered_own (callable_at s.types s.functions c.args.function) (Runs (top_term stack)) entry_is.0;
+      holds = entered_own s (callable_at s.types s.functions c.args.function) (Runs (top_term stack)) entry_is.0;
     }
 
 pub returns-in-Own-clause-returned : goal.returns-in-Own-clause-returned
@@ -31,7 +31,7 @@ returns-in-Own-clause-returned g c =
     let stack = g.S.Steps.stack c.enter.new.self in
     let fuel = c.args.fuel in
     let entry_is : IsEntered s c.args.function entry.Own after stack =
-    subst (λ (e : Entered). IsEntered s c.args.function e after stack) c.in-Own.is c.in_ok-enter.ensures in
+    subst (λ (e : Entered). IsEntered s c.args.function e after stack) c.in-Own.is c.in_ok-enter.ensures.entered in
     λ ticks.
     subst (λ (e : RunEnd). IfOk c.run_term.result (λ left. e ≡ Returned (g.S.Steps.state c.run_term.new.machine) left (ticks + (fuel - left))))
     (sym (run_own s c.args.function fuel ticks (top_term stack) entry_is.0 ∙ ap (λ (x : State). run_from fuel ticks x (top_term stack)) (sym entry_is.1)))
@@ -44,7 +44,7 @@ returns-in-Own-clause-stopped g c =
     let stack = g.S.Steps.stack c.enter.new.self in
     let fuel = c.args.fuel in
     let entry_is : IsEntered s c.args.function entry.Own after stack =
-    subst (λ (e : Entered). IsEntered s c.args.function e after stack) c.in-Own.is c.in_ok-enter.ensures in
+    subst (λ (e : Entered). IsEntered s c.args.function e after stack) c.in-Own.is c.in_ok-enter.ensures.entered in
     λ ticks.
     subst (λ (e : RunEnd). IfErr c.run_term.result (λ fault. StopsBy c.args.phase e fault))
     (sym (run_own s c.args.function fuel ticks (top_term stack) entry_is.0 ∙ ap (λ (x : State). run_from fuel ticks x (top_term stack)) (sym entry_is.1)))
@@ -56,7 +56,7 @@ returns-in-Import-clause-stopped g c =
     let after = g.S.Steps.state c.enter.new.self in
     let stack = g.S.Steps.stack c.enter.new.self in
     let entry_is : IsEntered s c.args.function (entry.Import c.in-Import.import) after stack =
-    subst (λ (e : Entered). IsEntered s c.args.function e after stack) c.in-Import.is c.in_ok-enter.ensures in
+    subst (λ (e : Entered). IsEntered s c.args.function e after stack) c.in-Import.is c.in_ok-enter.ensures.entered in
     λ ticks. run_import s c.args.function c.args.fuel ticks c.in-Import.import entry_is.0 entry_is.1 entry_is.2
 
 pub returns-in-Missing-clause-stopped : goal.returns-in-Missing-clause-stopped
@@ -65,5 +65,5 @@ returns-in-Missing-clause-stopped g c =
     let after = g.S.Steps.state c.enter.new.self in
     let stack = g.S.Steps.stack c.enter.new.self in
     let entry_is : IsEntered s c.args.function entry.Missing after stack =
-    subst (λ (e : Entered). IsEntered s c.args.function e after stack) c.in-Missing.is c.in_ok-enter.ensures in
+    subst (λ (e : Entered). IsEntered s c.args.function e after stack) c.in-Missing.is c.in_ok-enter.ensures.entered in
     λ ticks. run_missing s c.args.function c.args.fuel ticks entry_is

@@ -2,7 +2,7 @@ use Rattle.std.proofs.Common.{◌≡◌, false, refl, subst}
 use Rattle.wz_machine.specs.Next.{next}
 use Rattle.wz_init.specs.declared.turn.Turned.{Turned}
 use Rattle.wz_init.specs.declared.turn.Turned.TheVariants as turned
-use Rattle.wz_init.specs.Run.{head_changes_table}
+use Rattle.wz_machine.specs.Advance.{head_changes_table}
 use Rattle.wz_init.specs.Turns.{top_term, IsTicked}
 use Rattle.wz_init.proofs.RunLemmas.{run_refused}
 use Rattle.wz_init.proofs.TurnLemmas.{went_run, went_beyond, went_running, ended_run, asked_here, grown_run, grown_running, trapped_run, float_run, table_run, import_run, foreign_run, stuck_run}
@@ -21,7 +21,7 @@ returns-in-Ok-clause-running g c =
     let after = g.S.Steps.state c.tick.new.self in
     let stack = g.S.Steps.stack c.tick.new.self in
     let spares : head_changes_table (next term) ≡ false = cc (c.would_change_table.ensures, c.if-would_change_table.false) in
-    let ticked : IsTicked s term (turned.Went) after stack = subst (λ (t : Turned). IsTicked s term t after stack) c.in-Went.is c.in_ok-tick.ensures in
+    let ticked : IsTicked s term (turned.Went) after stack = subst (λ (t : Turned). IsTicked s term t after stack) c.in-Went.is c.in_ok-tick.ensures.ticked in
     went_running s after stack term spares ticked c.in-Ok.ensures.within c.requires.own c.requires.holds
 
 pub returns-in-Ok-clause-turned : goal.returns-in-Ok-clause-turned
@@ -31,7 +31,7 @@ returns-in-Ok-clause-turned g c =
     let after = g.S.Steps.state c.tick.new.self in
     let stack = g.S.Steps.stack c.tick.new.self in
     let spares : head_changes_table (next term) ≡ false = cc (c.would_change_table.ensures, c.if-would_change_table.false) in
-    let ticked : IsTicked s term (turned.Went) after stack = subst (λ (t : Turned). IsTicked s term t after stack) c.in-Went.is c.in_ok-tick.ensures in
+    let ticked : IsTicked s term (turned.Went) after stack = subst (λ (t : Turned). IsTicked s term t after stack) c.in-Went.is c.in_ok-tick.ensures.ticked in
     λ fuel ticks. went_run s after stack term spares ticked c.in-Ok.ensures.within fuel ticks
 
 pub returns-in-Err-clause-stopped : goal.returns-in-Err-clause-stopped
@@ -41,7 +41,7 @@ returns-in-Err-clause-stopped g c =
     let after = g.S.Steps.state c.tick.new.self in
     let stack = g.S.Steps.stack c.tick.new.self in
     let spares : head_changes_table (next term) ≡ false = cc (c.would_change_table.ensures, c.if-would_change_table.false) in
-    let ticked : IsTicked s term (turned.Went) after stack = subst (λ (t : Turned). IsTicked s term t after stack) c.in-Went.is c.in_ok-tick.ensures in
+    let ticked : IsTicked s term (turned.Went) after stack = subst (λ (t : Turned). IsTicked s term t after stack) c.in-Went.is c.in_ok-tick.ensures.ticked in
     λ fuel ticks. went_beyond s after stack term spares ticked c.args.phase c.in-Err.fault c.in-Err.ensures.beyond fuel ticks
 
 pub returns-in-Ended-clause-turned : goal.returns-in-Ended-clause-turned
@@ -51,7 +51,7 @@ returns-in-Ended-clause-turned g c =
     let after = g.S.Steps.state c.tick.new.self in
     let stack = g.S.Steps.stack c.tick.new.self in
     let spares : head_changes_table (next term) ≡ false = cc (c.would_change_table.ensures, c.if-would_change_table.false) in
-    let ticked : IsTicked s term (turned.Ended) after stack = subst (λ (t : Turned). IsTicked s term t after stack) c.in-Ended.is c.in_ok-tick.ensures in
+    let ticked : IsTicked s term (turned.Ended) after stack = subst (λ (t : Turned). IsTicked s term t after stack) c.in-Ended.is c.in_ok-tick.ensures.ticked in
     λ fuel ticks. ended_run s after stack term spares ticked fuel ticks
 
 pub grow-requires : goal.grow-requires
@@ -61,7 +61,7 @@ grow-requires g c =
     let after = g.S.Steps.state c.tick.new.self in
     let stack = g.S.Steps.stack c.tick.new.self in
     let spares : head_changes_table (next term) ≡ false = cc (c.would_change_table.ensures, c.if-would_change_table.false) in
-    let ticked : IsTicked s term (turned.Memory c.in-Memory.index c.in-Memory.by) after stack = subst (λ (t : Turned). IsTicked s term t after stack) c.in-Memory.is c.in_ok-tick.ensures in
+    let ticked : IsTicked s term (turned.Memory c.in-Memory.index c.in-Memory.by) after stack = subst (λ (t : Turned). IsTicked s term t after stack) c.in-Memory.is c.in_ok-tick.ensures.ticked in
     asked_here s after stack term spares c.in-Memory.index c.in-Memory.by ticked c.requires.own c.requires.holds
 
 pub returns-in_ok-grow-in-Memory-clause-running : goal.returns-in_ok-grow-in-Memory-clause-running
@@ -71,7 +71,7 @@ returns-in_ok-grow-in-Memory-clause-running g c =
     let after = g.S.Steps.state c.tick.new.self in
     let stack = g.S.Steps.stack c.tick.new.self in
     let spares : head_changes_table (next term) ≡ false = cc (c.would_change_table.ensures, c.if-would_change_table.false) in
-    let ticked : IsTicked s term (turned.Memory c.in-Memory.index c.in-Memory.by) after stack = subst (λ (t : Turned). IsTicked s term t after stack) c.in-Memory.is c.in_ok-tick.ensures in
+    let ticked : IsTicked s term (turned.Memory c.in-Memory.index c.in-Memory.by) after stack = subst (λ (t : Turned). IsTicked s term t after stack) c.in-Memory.is c.in_ok-tick.ensures.ticked in
     grown_running s after stack term spares c.in-Memory.index c.in-Memory.by (g.S.Steps.state c.grow.new.machine) (g.S.Steps.stack c.grow.new.machine) ticked
     c.in_ok-grow-in-Memory.ensures.state c.in_ok-grow-in-Memory.ensures.stack c.requires.within c.requires.own c.requires.holds
 
@@ -82,7 +82,7 @@ returns-in_ok-grow-in-Memory-clause-turned g c =
     let after = g.S.Steps.state c.tick.new.self in
     let stack = g.S.Steps.stack c.tick.new.self in
     let spares : head_changes_table (next term) ≡ false = cc (c.would_change_table.ensures, c.if-would_change_table.false) in
-    let ticked : IsTicked s term (turned.Memory c.in-Memory.index c.in-Memory.by) after stack = subst (λ (t : Turned). IsTicked s term t after stack) c.in-Memory.is c.in_ok-tick.ensures in
+    let ticked : IsTicked s term (turned.Memory c.in-Memory.index c.in-Memory.by) after stack = subst (λ (t : Turned). IsTicked s term t after stack) c.in-Memory.is c.in_ok-tick.ensures.ticked in
     λ fuel ticks.
     grown_run s after stack term spares c.in-Memory.index c.in-Memory.by (g.S.Steps.state c.grow.new.machine) (g.S.Steps.stack c.grow.new.machine) ticked
     c.in_ok-grow-in-Memory.ensures.state c.in_ok-grow-in-Memory.ensures.stack fuel ticks
@@ -94,7 +94,7 @@ returns-in-Trapped-clause-stopped g c =
     let after = g.S.Steps.state c.tick.new.self in
     let stack = g.S.Steps.stack c.tick.new.self in
     let spares : head_changes_table (next term) ≡ false = cc (c.would_change_table.ensures, c.if-would_change_table.false) in
-    let ticked : IsTicked s term (turned.Trapped c.in-Trapped.kind) after stack = subst (λ (t : Turned). IsTicked s term t after stack) c.in-Trapped.is c.in_ok-tick.ensures in
+    let ticked : IsTicked s term (turned.Trapped c.in-Trapped.kind) after stack = subst (λ (t : Turned). IsTicked s term t after stack) c.in-Trapped.is c.in_ok-tick.ensures.ticked in
     λ fuel ticks. (refl, trapped_run s after stack term spares c.in-Trapped.kind ticked fuel ticks)
 
 pub returns-in-Float-clause-stopped : goal.returns-in-Float-clause-stopped
@@ -104,7 +104,7 @@ returns-in-Float-clause-stopped g c =
     let after = g.S.Steps.state c.tick.new.self in
     let stack = g.S.Steps.stack c.tick.new.self in
     let spares : head_changes_table (next term) ≡ false = cc (c.would_change_table.ensures, c.if-would_change_table.false) in
-    let ticked : IsTicked s term (turned.Float c.in-Float.op) after stack = subst (λ (t : Turned). IsTicked s term t after stack) c.in-Float.is c.in_ok-tick.ensures in
+    let ticked : IsTicked s term (turned.Float c.in-Float.op) after stack = subst (λ (t : Turned). IsTicked s term t after stack) c.in-Float.is c.in_ok-tick.ensures.ticked in
     λ fuel ticks. float_run s after stack term spares c.in-Float.op ticked fuel ticks
 
 pub returns-in-Table-clause-stopped : goal.returns-in-Table-clause-stopped
@@ -114,7 +114,7 @@ returns-in-Table-clause-stopped g c =
     let after = g.S.Steps.state c.tick.new.self in
     let stack = g.S.Steps.stack c.tick.new.self in
     let spares : head_changes_table (next term) ≡ false = cc (c.would_change_table.ensures, c.if-would_change_table.false) in
-    let ticked : IsTicked s term (turned.Table) after stack = subst (λ (t : Turned). IsTicked s term t after stack) c.in-Table.is c.in_ok-tick.ensures in
+    let ticked : IsTicked s term (turned.Table) after stack = subst (λ (t : Turned). IsTicked s term t after stack) c.in-Table.is c.in_ok-tick.ensures.ticked in
     λ fuel ticks. table_run s after stack term spares ticked fuel ticks
 
 pub returns-in-Stuck-clause-stopped : goal.returns-in-Stuck-clause-stopped
@@ -124,7 +124,7 @@ returns-in-Stuck-clause-stopped g c =
     let after = g.S.Steps.state c.tick.new.self in
     let stack = g.S.Steps.stack c.tick.new.self in
     let spares : head_changes_table (next term) ≡ false = cc (c.would_change_table.ensures, c.if-would_change_table.false) in
-    let ticked : IsTicked s term (turned.Stuck) after stack = subst (λ (t : Turned). IsTicked s term t after stack) c.in-Stuck.is c.in_ok-tick.ensures in
+    let ticked : IsTicked s term (turned.Stuck) after stack = subst (λ (t : Turned). IsTicked s term t after stack) c.in-Stuck.is c.in_ok-tick.ensures.ticked in
     λ fuel ticks. stuck_run s after stack term spares ticked fuel ticks
 
 pub returns-in-Import-clause-stopped : goal.returns-in-Import-clause-stopped
@@ -134,7 +134,7 @@ returns-in-Import-clause-stopped g c =
     let after = g.S.Steps.state c.tick.new.self in
     let stack = g.S.Steps.stack c.tick.new.self in
     let spares : head_changes_table (next term) ≡ false = cc (c.would_change_table.ensures, c.if-would_change_table.false) in
-    let ticked : IsTicked s term (turned.Import c.in-Import.import) after stack = subst (λ (t : Turned). IsTicked s term t after stack) c.in-Import.is c.in_ok-tick.ensures in
+    let ticked : IsTicked s term (turned.Import c.in-Import.import) after stack = subst (λ (t : Turned). IsTicked s term t after stack) c.in-Import.is c.in_ok-tick.ensures.ticked in
     λ fuel ticks. import_run s after stack term spares c.in-Import.import ticked fuel ticks
 
 pub returns-in-Foreign-clause-stopped : goal.returns-in-Foreign-clause-stopped
@@ -144,5 +144,5 @@ returns-in-Foreign-clause-stopped g c =
     let after = g.S.Steps.state c.tick.new.self in
     let stack = g.S.Steps.stack c.tick.new.self in
     let spares : head_changes_table (next term) ≡ false = cc (c.would_change_table.ensures, c.if-would_change_table.false) in
-    let ticked : IsTicked s term (turned.Foreign c.in-Foreign.field-0) after stack = subst (λ (t : Turned). IsTicked s term t after stack) c.in-Foreign.is c.in_ok-tick.ensures in
+    let ticked : IsTicked s term (turned.Foreign c.in-Foreign.field-0) after stack = subst (λ (t : Turned). IsTicked s term t after stack) c.in-Foreign.is c.in_ok-tick.ensures.ticked in
     λ fuel ticks. foreign_run s after stack term spares c.in-Foreign.field-0 ticked fuel ticks

@@ -6,7 +6,7 @@ use Rattle.wz_init.specs.Ready.{IsRefused}
 use Rattle.wz_top.specs.Verdict.{IsRefusedBy, order_of}
 use Rattle.wz_top.specs.declared.outcome.Outcome.{Outcome}
 use Rattle.wz_top.proofs.OutsideLaws.{names_differ}
-use Rattle.wz_top.specs.Orders.{IsRunnable}
+use Rattle.wz_init.specs.Orders.{IsRunnable}
 use Rattle.wz_top.proofs.RunnableLemmas.{kept_run}
 use Rattle.wz_top.proofs.TurnLemmas.{export_refused, run_refused}
 use Rattle.wz_top.proofs.MakingLemmas.{refused_made}

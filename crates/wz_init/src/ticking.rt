@@ -1,0 +1,229 @@
+//! The machine makes the ticks of a run.
+
+ghost use Rattle.std.specs.Prelude.{◌≡◌, ◌∷◌, [], Some, None, IfOk, OnOk};
+ghost use Rattle.wz_store.specs.Changes.{applied};
+ghost use Rattle.wz_machine.specs.Terms.{Runs};
+ghost use Rattle.wz_machine.specs.Straight.{changes_table};
+ghost use Rattle.wz_machine.specs.Advance.{head_changes_table};
+ghost use Rattle.wz_machine.specs.Next.{next};
+ghost use Rattle.wz_machine.specs.Replies.{put, question_event};
+ghost use Rattle.wz_machine.specs.Ticks.{event_of, asked_event};
+ghost use Rattle.wz_machine.specs.Frames.{frame_count, local_count};
+ghost use Rattle.wz_machine.specs.Machines.{machine_state, machine_stack};
+ghost use Rattle.wz_machine.specs.Moves.{GrowAsked, HostCall};
+ghost use Rattle.wz_init.specs.Run.{pages_together, is_granted, growth_change, growth_value};
+ghost use Rattle.wz_init.specs.Turns.{top_term, IsAlone, IsEntered, IsTicked, IsAskedHere};
+ghost use Rattle.wz_init.specs.Turns.{TakesNothing};
+ghost use Rattle.wz_init.specs.Events.{turned_by, entered_as};
+
+use crate::stepping::Steps;
+use crate::turn::{Entered, Turned};
+use std::alloc::AllocError;
+use wz_code::Instr;
+use wz_linear::Linear;
+use wz_machine::{Ask, EnterFault, GrowFault, Growth, HostTarget, Machine, Tick};
+use wz_store::{Function, Store};
+
+/// Whether the instruction changes a table.
+fn is_table_change(instr: &Instr) -> bool
+    ensures { result ≡ changes_table instr.now }
+{
+    match *instr {
+        Instr::TableSet(_)
+        | Instr::TableInit {
+            segment: _,
+            table: _,
+        }
+        | Instr::TableCopy { to: _, from: _ }
+        | Instr::TableGrow(_)
+        | Instr::TableFill(_) => true,
+        _ => false,
+    }
+}
+
+/// Whether the next tick of the only term would change a table.
+fn would_change_table<'m, M: Linear>(machine: &Machine<'m, M>) -> bool
+    requires { IsAlone (machine_stack machine.now) }
+    ensures { result ≡ head_changes_table (next (top_term (machine_stack machine.now))) }
+{
+    match machine.peek() {
+        Some(instr) => is_table_change(&instr),
+        None => false,
+    }
+}
+
+fn called(target: HostTarget) -> Turned
+    ensures { result ≡ turned_by (HostCall target []) }
+{
+    match target {
+        HostTarget::Import(number) => Turned::Import(number),
+        HostTarget::Foreign(id) => Turned::Foreign(id),
+    }
+}
+
+fn growing(growth: Growth) -> Turned
+    ensures { result ≡ turned_by (GrowAsked growth) }
+{
+    match growth {
+        Growth::Memory { index, by } => Turned::Memory { index, by },
+        Growth::Table { index: _, by: _ } => Turned::Table,
+    }
+}
+
+fn asked(ask: &Ask) -> Turned
+    ensures { result ≡ turned_by (asked_event ask.now) }
+{
+    match ask {
+        Ask::Float { op, operands: _ } => Turned::Float(*op),
+        Ask::Grow(growth) => growing(*growth),
+        Ask::Host { target, args: _ } => called(*target),
+    }
+}
+
+fn turned(tick: &Tick) -> Turned
+    ensures { result ≡ turned_by (event_of tick.now) }
+{
+    match tick {
+        Tick::Went => Turned::Went,
+        Tick::Done(_) => Turned::Ended,
+        Tick::Trapped(kind) => Turned::Trapped(*kind),
+        Tick::Asked(ask) => asked(ask),
+        Tick::Idle | Tick::Stuck => Turned::Stuck,
+    }
+}
+
+/// A tick of the only term.
+fn tick<'m, M: Linear>(machine: &mut Machine<'m, M>) -> Result<Turned, AllocError>
+    requires { IsAlone (machine_stack machine.old) }
+    ensures ticked { IfOk result (λ turned. IsTicked (machine_state machine.old)
+        (top_term (machine_stack machine.old)) turned (machine_state machine.new)
+        (machine_stack machine.new)) }
+    ensures bodies { OnOk result (machine.new.bodies ≡ machine.old.bodies) }
+{
+    wz_machine::laws::steps_write();
+    let tick = machine.tick()?;
+    Ok(turned(&tick))
+}
+
+/// What entering a function comes to.
+fn entered(function: Option<Function>) -> Entered
+    ensures { result ≡ entered_as function }
+{
+    match function {
+        Some(
+            Function::Own {
+                signature: _,
+                body: _,
+            },
+        ) => Entered::Own,
+        Some(
+            Function::Import {
+                signature: _,
+                import,
+            },
+        ) => Entered::Import(import),
+        None => Entered::Missing,
+    }
+}
+
+fn enter<'m, M: Linear>(machine: &mut Machine<'m, M>, function: u32) -> Result<Entered, AllocError>
+    requires empty { machine_stack machine.old ≡ [] }
+    requires takes { TakesNothing (machine_state machine.old) function }
+    ensures entered { IfOk result (λ entered. IsEntered (machine_state machine.old) function
+        entered (machine_state machine.new) (machine_stack machine.new)) }
+    ensures bodies { OnOk result (machine.new.bodies ≡ machine.old.bodies) }
+{
+    wz_machine::laws::steps_write();
+    let stored = machine.store().function(function);
+    match machine.enter(function, &[]) {
+        Ok(()) => Ok(entered(stored)),
+        Err(EnterFault::NoFunction) => Ok(Entered::Missing),
+        Err(EnterFault::NoMemory) => Err(AllocError),
+        // the machine is empty, and the function takes nothing
+        Err(EnterFault::NotNow) => unreachable!(),
+        Err(EnterFault::Unfit) => unreachable!(),
+    }
+}
+
+/// The pages of all memories together.
+fn pages<'m, M: Linear>(store: &Store<'m, M>) -> u64
+    ensures { result ≡ pages_together store.now.memories }
+{
+    let mut pages: u64 = 0;
+    for index in 0..store.memory_count() {
+        match store.memory_type(index) {
+            Some(kind) => pages += u64::from(kind.limits.min),
+            None => {}
+        }
+    }
+    pages
+}
+
+/// Answers the question whether a memory grows.
+fn answer_growth<'m, M: Linear>(
+    machine: &mut Machine<'m, M>,
+    index: u32,
+    by: u32,
+    granted: bool,
+) -> Result<(), AllocError>
+    requires asked { IsAskedHere (machine_state machine.old) (machine_stack machine.old) index by }
+    requires granted { granted ≡ is_granted (machine_state machine.old) by }
+    ensures state { OnOk result (machine_state machine.new ≡
+        applied (growth_change (machine_state machine.old) index by)
+        (machine_state machine.old)) }
+    ensures stack { OnOk result (machine_stack machine.new ≡
+        Runs (put (growth_value (machine_state machine.old) index by ∷ [])
+        (top_term (machine_stack machine.old))) ∷ []) }
+    ensures bodies { OnOk result (machine.new.bodies ≡ machine.old.bodies) }
+{
+    wz_machine::laws::steps_write();
+    match machine.answer_grow(granted) {
+        Ok(()) => Ok(()),
+        Err(GrowFault::NoMemory) => Err(AllocError),
+        // just this growth is asked for, within the limits
+        Err(GrowFault::NotNow) => unreachable!(),
+    }
+}
+
+impl<'m, M: Linear> Steps for Machine<'m, M> {
+    ghost use Rattle.wz_machine.specs.Machines.{machine_state, machine_stack};
+
+    ghost state = { λ machine. machine_state machine };
+
+    ghost stack = { λ machine. machine_stack machine };
+
+    ghost bodies = { λ machine. machine.bodies };
+
+    fn enter(&mut self, function: u32) -> Result<Entered, AllocError> {
+        enter(self, function)
+    }
+
+    fn would_change_table(&self) -> bool {
+        would_change_table(self)
+    }
+
+    fn tick(&mut self) -> Result<Turned, AllocError> {
+        tick(self)
+    }
+
+    // each tick is made by `tick`
+    fn advance(&mut self, _limit: u64) -> Result<u64, AllocError> {
+        Ok(0)
+    }
+
+    fn frames(&self) -> u64 {
+        self.frames()
+    }
+
+    fn frame_locals(&self) -> u64 {
+        self.frame_locals()
+    }
+
+    fn pages(&self) -> u64 {
+        pages(self.store())
+    }
+
+    fn answer_growth(&mut self, index: u32, by: u32, granted: bool) -> Result<(), AllocError> {
+        answer_growth(self, index, by, granted)
+    }
+}

@@ -1,0 +1,103 @@
+-- Many steps, put together.
+use Rattle.std.proofs.Common.{◌≡◌, ◌≤◌, ◌<◌, ◌+◌, ◌-◌, ◌⊎◌, ℕ, zero, suc, List, [], ◌∷◌, Option, Bool, true, false, IsTrue, IsFalse, inl, inr, length, take, get_or, set, refl, ap, sym, subst, ◌∙◌, arith}
+use Rattle.wz_code.specs.declared.instr.Instr.{Instr}
+use Rattle.wz_code.specs.declared.instr.Instr.TheVariants.{Block, Loop, If}
+use Rattle.wz_code.specs.BodyParts.{BodyParts}
+use Rattle.wz_code.specs.Trees.{Code, leaf_in, code_in, headed_in}
+use Rattle.wz_store.specs.Made.{StoreState}
+use Rattle.wz_store.specs.Changes.{Change, applied}
+use Rattle.wz_machine.specs.declared.stride.Stride.TheVariants as stride
+use Rattle.wz_machine.specs.State.{State, state_of}
+use Rattle.wz_machine.specs.Terms.{Term, Standing}
+use Rattle.wz_machine.specs.Standings.{StandingParts, standing_of, stack_of}
+use Rattle.wz_machine.specs.Outcomes.{Answer, Next}
+use Rattle.wz_machine.specs.Step.{step}
+use Rattle.wz_machine.specs.Next.{Head, head_of, next}
+use Rattle.wz_machine.specs.Frames.{frame_count, local_count}
+use Rattle.wz_machine.specs.Stacks.{StackParts, stacks_term}
+use Rattle.wz_machine.specs.Straight.{changes_table}
+use Rattle.wz_machine.specs.Strides.{Gone}
+use Rattle.wz_machine.specs.Advance.{head_changes_table, StandingAdvanced, StackAdvanced, StepsOn, EntersNone, Reaches, ReachesEntry, GoesNot, HaltsNext}
+use Rattle.wz_machine.proofs.ChangeLemmas.{change_reaches_state}
+use Rattle.wz_machine.proofs.StandingLemmas.{stack_top, stack_set}
+use Rattle.wz_machine.proofs.SiteLemmas.{next-head, leaf-spares}
+
+-- steps after steps
+pub reaches_add : (m n : ℕ) (s between after : State) (term middle new : Term) → Reaches m s term between middle → Reaches n between middle after new → Reaches (m + n) s term after new
+reaches_add m zero s between after term middle new first rest =
+    let P : ℕ → State → Term → Type 0 = λ k x t. Reaches k s term x t in
+    let none : m ≡ m + 0 = omega arith in
+    let one : P m after middle = subst (λ (x : State). P m x middle) (sym rest.0) first in
+    let two : P m after new = subst (λ (t : Term). P m after t) (sym rest.1) one in
+    subst (λ k. P k after new) none two
+reaches_add m (suc n) s between after term middle new first (x, t, rest, on, none) =
+    let more : suc (m + n) ≡ m + suc n = omega arith in
+    subst (λ k. Reaches k s term after new) more (x, t, reaches_add m n s between x term middle t first rest, on, none)
+
+-- one step more, that enters no function
+pub reaches_more : (m n : ℕ) (s between after : State) (term middle new : Term) → n ≡ m + 1 → Reaches m s term between middle → StepsOn between middle after new
+    → EntersNone middle new → Reaches n s term after new
+reaches_more m n s between after term middle new at first on none =
+    let more : suc m ≡ n = omega (arith, at) in
+    subst (λ k. Reaches k s term after new) more (between, middle, first, on, none)
+
+pub reaches_entry : (m n : ℕ) (s between after : State) (term middle new : Term) → n ≡ m + 1 → Reaches m s term between middle → StepsOn between middle after new
+    → ReachesEntry n s term after new
+reaches_entry m n s between after term middle new at first on =
+    let more : suc m ≡ n = omega (arith, at) in
+    subst (λ k. ReachesEntry k s term after new) more (between, middle, first, on)
+
+-- the instruction in front
+headed-spares : (body : BodyParts) (instr : Instr) (rest : Code) → head_changes_table (head_of (headed_in body instr rest)) ≡ changes_table instr
+headed-spares body (Block shape inner) rest = refl
+headed-spares body (Loop shape inner) rest = refl
+headed-spares body (If shape first second) rest = refl
+headed-spares body instr rest = leaf-spares body instr
+
+pub table_next : (s : StackParts) (instr : Instr) (rest : List Instr) → s.top.rest ≡ instr ∷ rest → changes_table instr ≡ head_changes_table (next (stacks_term s))
+table_next s instr rest first =
+    sym (ap (λ (h : Option Head). head_changes_table h) (next-head s ∙ ap (λ (code : List Instr). head_of (code_in s.top.body code)) first)
+    ∙ headed-spares s.top.body instr (code_in s.top.body rest))
+
+pub no_table_next : (s : StackParts) (rest : List Instr) → rest ≡ s.top.rest → length rest ≡ 0 → false ≡ head_changes_table (next (stacks_term s))
+no_table_next s [] same none =
+    sym (ap (λ (h : Option Head). head_changes_table h) (next-head s ∙ ap (λ (code : List Instr). head_of (code_in s.top.body code)) (sym same)))
+no_table_next s (instr ∷ rest) same none = absurd (omega (arith, none))
+
+-- a step that went on is one of a run
+pub gone_on : (bodies : List BodyParts) (s : StoreState) (before now : StackParts) (t : StoreState) → Gone (step (state_of bodies s) (stacks_term before)) s now t
+    → head_changes_table (next (stacks_term before)) ≡ false → StepsOn (state_of bodies s) (stacks_term before) (state_of bodies t) (stacks_term now)
+gone_on bodies s before now t gone spares = record {
+  change = gone.change;
+  goes = gone.goes;
+  state = ap (λ (x : StoreState). state_of bodies x) gone.store ∙ change_reaches_state bodies s gone.change;
+  spares = spares;
+}
+
+-- a step that doesn't go on, and leaves all as it was
+pub halts_after : (bodies : List BodyParts) (m limit : ℕ) (first : State) (term : Term) (store after : StoreState) (before now : StackParts) (answer : Answer)
+    → Reaches m first term (state_of bodies store) (stacks_term before) → now ≡ before → after ≡ store → step (state_of bodies store) (stacks_term before) ≡ answer → GoesNot answer
+    → Reaches m first term (state_of bodies after) (stacks_term now) × ((m ≡ limit) ⊎ HaltsNext (state_of bodies after) (stacks_term now))
+halts_after bodies m limit first term store after before now answer ran same kept is halts =
+    let P : StackParts → StoreState → Type 0 =
+    λ x y. Reaches m first term (state_of bodies y) (stacks_term x) × ((m ≡ limit) ⊎ HaltsNext (state_of bodies y) (stacks_term x)) in
+    let goes : GoesNot (step (state_of bodies store) (stacks_term before)) = subst (λ (a : Answer). GoesNot a) (sym is) halts in
+    let one : P before store = (ran, inr (inr goes)) in
+    let two : P now store = subst (λ (x : StackParts). P x store) (sym same) one in
+    subst (λ (y : StoreState). P now y) (sym kept) two
+
+-- the topmost term is the last of a list
+pub stack_advanced : (entered : Bool) (limit made : ℕ) (s after : State) (xs ys : List StandingParts) (before now d : StandingParts) (n : ℕ) → n ≡ length xs → 0 < n
+    → before ≡ get_or xs (n - 1) d → ys ≡ set xs (n - 1) now → StandingAdvanced entered limit made s (standing_of before) after (standing_of now)
+    → StackAdvanced entered limit made s (stack_of xs) after (stack_of ys)
+stack_advanced entered limit made s after xs ys before now d n len some is set_to advanced =
+    let positive : 0 < length xs = omega (arith, len, some) in
+    let place : n - 1 ≡ length xs - 1 = ap (λ k. k - 1) len in
+    let first : before ≡ get_or xs (length xs - 1) d = is ∙ ap (λ k. get_or xs k d) place in
+    let below : List Standing = stack_of (take (length xs - 1) xs) in
+    let was : stack_of xs ≡ standing_of before ∷ below =
+    stack_top xs d positive ∙ ap (λ (p : StandingParts). standing_of p ∷ below) (sym first) in
+    let later : stack_of ys ≡ standing_of now ∷ below =
+    ap (λ (zs : List StandingParts). stack_of zs) (set_to ∙ ap (λ k. set xs k now) place) ∙ stack_set xs now positive in
+    let P : List Standing → Type 0 = λ x. StackAdvanced entered limit made s x after (stack_of ys) in
+    subst P (sym was) (standing_of now, later, advanced)

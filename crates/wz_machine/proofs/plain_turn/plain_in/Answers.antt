@@ -1,0 +1,9 @@
+use Rattle.std.proofs.Common.{◌≡◌, ◌-◌, length, arith, rules}
+use Rattle.wz_machine.proofs.SiteLemmas.{apart_same}
+use Rattle.wz_machine.proofs.plain_turn.plain_in.Goals as goal
+
+pub returns-clause-apart : goal.returns-clause-apart
+returns-clause-apart g c =
+    let size : length c.run_plain.new.locals ≡ c.args.places.locals_end - c.args.places.locals_at = search (rules, arith) in
+    rw c.split_at_mut-lower.ensures.front
+    (apart_same c.args.places c.args.values.now c.run_plain.new.locals c.run_plain.new.own c.args.have c.requires.order (omega arith) size)

@@ -1,0 +1,195 @@
+//! Many steps of one term at once.
+
+ghost use Rattle.std.specs.Prelude.{◌≡◌, length, IfOk};
+ghost use Rattle.wz_machine.specs.State.{state_of};
+ghost use Rattle.wz_machine.specs.Next.{next};
+ghost use Rattle.wz_machine.specs.Stacks.{stacks_term};
+ghost use Rattle.wz_machine.specs.Standings.{work_term, standing_of, stack_of};
+ghost use Rattle.wz_machine.specs.Machines.{machine_state, machine_stack};
+ghost use Rattle.wz_machine.specs.Keeping.{work_parts};
+ghost use Rattle.wz_machine.specs.Advance.{head_changes_table, IsAdvance, StandingAdvanced, StackAdvanced};
+
+use crate::machine::Machine;
+use crate::stacks::Stacks;
+use crate::standing::{Standing, Work};
+use crate::straight::is_table_change;
+use crate::stride::Stride;
+use std::alloc::AllocError;
+use wz_code::Body;
+use wz_linear::Linear;
+use wz_store::Store;
+
+/// How many steps were made, and whether the last of them entered a function.
+#[derive(Clone, Copy)]
+pub struct Advance {
+    pub made: u64,
+    pub entered: bool,
+}
+
+impl<'m> Stacks<'m> {
+    /// Whether the instruction that comes next changes a table.
+    fn meets_table(&self) -> bool
+        ensures { result ≡ head_changes_table (next (stacks_term self.now)) }
+    {
+        let top = self.innermost();
+        match top.rest.split_first() {
+            Some((instr, _)) => is_table_change(instr),
+            None => false,
+        }
+    }
+
+    /// Makes at most so many steps that plainly go on, the last of which may enter a function.
+    pub fn advance<M: Linear>(
+        &mut self,
+        limit: u64,
+        bodies: &'m [Body],
+        store: &mut Store<'m, M>,
+    ) -> Result<Advance, AllocError>
+        ensures { IfOk result (λ done. IsAdvance done.entered limit done.made
+            (state_of bodies.now store.old) (stacks_term self.old)
+            (state_of bodies.now store.new) (stacks_term self.new)) }
+    {
+        let mut made = 0;
+        while made < limit {
+            let pause = self.run((limit - made) as usize, store)?;
+            made += pause.made as u64;
+            if made == limit {
+                return Ok(Advance {
+                    made,
+                    entered: false,
+                });
+            }
+            if self.meets_table() {
+                return Ok(Advance {
+                    made,
+                    entered: false,
+                });
+            }
+            let frames = self.frames();
+            let locals = self.frame_locals();
+            match self.stride(bodies, store)? {
+                Stride::Went => made += 1,
+                Stride::Ends { at: _, count: _ } => return Ok(Advance {
+                    made,
+                    entered: false,
+                }),
+                Stride::Trapped(_) => return Ok(Advance {
+                    made,
+                    entered: false,
+                }),
+                Stride::Stuck => return Ok(Advance {
+                    made,
+                    entered: false,
+                }),
+                Stride::Asks {
+                    pending: _,
+                    count: _,
+                    rest: _,
+                    have: _,
+                } => {
+                    return Ok(Advance {
+                        made,
+                        entered: false,
+                    });
+                }
+            }
+            if self.frames() > frames || self.frame_locals() > locals {
+                return Ok(Advance {
+                    made,
+                    entered: true,
+                });
+            }
+        }
+        Ok(Advance {
+            made,
+            entered: false,
+        })
+    }
+}
+
+/// Many steps of a term that waits for nothing.
+fn advance_work<'m, M: Linear>(
+    limit: u64,
+    bodies: &'m [Body],
+    work: &mut Work<'m>,
+    store: &mut Store<'m, M>,
+) -> Result<Advance, AllocError>
+    ensures { IfOk result (λ done. IsAdvance done.entered limit done.made
+        (state_of bodies.now store.old) (work_term (work_parts work.old))
+        (state_of bodies.now store.new) (work_term (work_parts work.new))) }
+{
+    match work {
+        Work::Stacks(stacks) => {
+            let done = stacks.advance(limit, bodies, store)?;
+            Ok(done)
+        }
+        Work::Values(_) => Ok(Advance {
+            made: 0,
+            entered: false,
+        }),
+    }
+}
+
+impl<'m> Standing<'m> {
+    /// Many steps of this term; none where it waits.
+    fn advance<M: Linear>(
+        &mut self,
+        limit: u64,
+        bodies: &'m [Body],
+        store: &mut Store<'m, M>,
+    ) -> Result<Advance, AllocError>
+        ensures { IfOk result (λ done. StandingAdvanced done.entered limit done.made
+            (state_of bodies.now store.old) (standing_of self.old)
+            (state_of bodies.now store.new) (standing_of self.new)) }
+    {
+        if let Some(_) = self.question() {
+            return Ok(Advance {
+                made: 0,
+                entered: false,
+            });
+        }
+        let done = advance_work(limit, bodies, &mut self.work, store)?;
+        Ok(done)
+    }
+}
+
+/// Many steps of the topmost term; none where no term stands.
+fn advance_top<'m, M: Linear>(
+    limit: u64,
+    bodies: &'m [Body],
+    standings: &mut Vec<Standing<'m>>,
+    store: &mut Store<'m, M>,
+) -> Result<Advance, AllocError>
+    ensures advanced { IfOk result (λ done. StackAdvanced done.entered limit done.made
+        (state_of bodies.now store.old) (stack_of standings.old.items)
+        (state_of bodies.now store.new) (stack_of standings.new.items)) }
+    ensures len { length standings.new.items ≡ length standings.old.items }
+{
+    match standings.last_mut() {
+        Some(top) => {
+            let done = top.advance(limit, bodies, store)?;
+            Ok(done)
+        }
+        None => Ok(Advance {
+            made: 0,
+            entered: false,
+        }),
+    }
+}
+
+impl<'m, M: Linear> Machine<'m, M> {
+    /// Makes at most so many steps of the topmost term that plainly go on, and says how many and
+    /// whether the last of them entered a function. It ends early only there, and before a step
+    /// that changes a table or doesn't go on. An error is a want of memory, after any number of
+    /// steps.
+    pub fn advance(&mut self, limit: u64) -> Result<Advance, AllocError>
+        ensures advanced { IfOk result (λ done. StackAdvanced done.entered limit done.made
+            (machine_state self.old) (machine_stack self.old)
+            (machine_state self.new) (machine_stack self.new)) }
+        ensures bodies { self.new.bodies ≡ self.old.bodies }
+    {
+        let bodies = self.bodies;
+        let done = advance_top(limit, bodies, &mut self.standings, &mut self.store)?;
+        Ok(done)
+    }
+}

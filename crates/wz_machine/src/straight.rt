@@ -1,0 +1,119 @@
+//! Runs of plain instructions within one block.
+//!
+//! The loop has few variables, and its code is a slice that a tick shortens by one, so that fuel,
+//! place and room cost nothing.
+
+ghost use Rattle.std.specs.Prelude.{◌≡◌, ◌≤◌, ◌+◌, length, drop};
+ghost use Rattle.wz_machine.specs.declared.straight.Stop.TheVariants.{Halted};
+ghost use Rattle.wz_machine.specs.PlainSteps.{site};
+ghost use Rattle.wz_machine.specs.Straight.{changes_table, point, RunsTo, StopsAt};
+
+use crate::plain::{Plain, run_plain};
+use wz_code::{Body, Instr};
+use wz_linear::Linear;
+use wz_store::Store;
+use wz_types::Value;
+
+/// Why a run ends: the limit or the block's end is reached, the next instruction doesn't plainly go
+/// on, or memory was refused to it.
+#[derive(Clone, Copy, PartialEq, Eq)]
+pub(crate) enum Stop {
+    Spent,
+    Halted,
+    NoMemory,
+}
+
+/// Where a run came to: how many instructions it made, and how many values the block has then.
+#[derive(Clone, Copy)]
+pub(crate) struct Pause {
+    pub stop: Stop,
+    pub made: usize,
+    pub have: usize,
+}
+
+/// Whether the instruction changes a table, which is not done in a run.
+#[inline(always)]
+pub(crate) fn is_table_change(instr: &Instr) -> bool
+    ensures { result ≡ changes_table instr.now }
+{
+    match *instr {
+        Instr::TableSet(_)
+        | Instr::TableInit {
+            segment: _,
+            table: _,
+        }
+        | Instr::TableCopy { to: _, from: _ }
+        | Instr::TableGrow(_)
+        | Instr::TableFill(_) => true,
+        _ => false,
+    }
+}
+
+#[inline(always)]
+fn halted(made: usize, have: usize) -> Pause
+    ensures stop { result.stop ≡ Halted }
+    ensures made { result.made ≡ made }
+    ensures have { result.have ≡ have }
+{
+    Pause {
+        stop: Stop::Halted,
+        made,
+        have,
+    }
+}
+
+/// Runs at most so many plain instructions of what is left of a block. Behind its values there is
+/// room for one by each of them.
+#[inline(always)]
+pub(crate) fn straight<M: Linear>(
+    body: &Body,
+    code: &[Instr],
+    limit: usize,
+    locals: &mut [Value],
+    own: &mut [Value],
+    have: usize,
+    store: &mut Store<'_, M>,
+) -> Pause
+    requires { have + length code.now ≤ length own.old }
+    ensures ran { RunsTo body.now result.made
+        (point code.now have (site locals.old own.old store.old))
+        (point (drop result.made code.now) result.have (site locals.new own.new store.new)) }
+    ensures limited { result.made ≤ limit }
+    ensures within { result.made ≤ length code.now }
+    ensures stopped { StopsAt result.stop body.now limit result.made
+        (point (drop result.made code.now) result.have (site locals.new own.new store.new)) }
+    ensures room { result.have + length code.now ≤ length own.new + result.made }
+{
+    let started = if limit < code.len() {
+        limit
+    } else {
+        code.len()
+    };
+    let mut rest = &code[..started];
+    let mut now = have;
+    while let Some((instr, tail)) = rest.split_first() {
+        let made = started - rest.len();
+        if is_table_change(instr) {
+            return halted(made, now);
+        }
+        match run_plain(body, instr, locals, own, now, store) {
+            Ok(Plain::Went(next)) => now = next,
+            Ok(Plain::Trapped(_)) => return halted(made, now),
+            Ok(Plain::Stuck) => return halted(made, now),
+            Ok(Plain::Special) => return halted(made, now),
+            Err(_) => {
+                return Pause {
+                    stop: Stop::NoMemory,
+                    made,
+                    have: now,
+                };
+            }
+        }
+        rest = tail;
+    }
+    Pause {
+        stop: Stop::Spent,
+        made: started,
+        have: now,
+    }
+}
