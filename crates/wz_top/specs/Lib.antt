@@ -14,3 +14,4 @@ pub mod FirstWriter
 pub mod Refusals
 pub mod Verdict
 pub mod Asked
+pub mod FreshOutput
