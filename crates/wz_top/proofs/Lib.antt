@@ -10,3 +10,11 @@ pub mod FirstRunLemmas
 pub mod FirstLaws
 pub mod FirstRulesLemmas
 pub mod FirstItemsLemmas
+pub mod FreshRunLemmas
+pub mod FreshPartsLemmas
+pub mod FreshElementLemmas
+pub mod FreshDataLemmas
+pub mod FreshMemoryLemmas
+pub mod FreshSlotLemmas
+pub mod FreshKeptLemmas
+pub mod FreshLaws

@@ -1,5 +1,6 @@
 //! Laws of the definitions that the contract of the top call cites.
 
+ghost use Rattle.wz_top.specs.FreshOutput.{OutputStartsAsReached};
 ghost use Rattle.wz_top.specs.Verdict.{OneVerdict};
 
 use wz_decode::laws as decode_laws;
@@ -13,4 +14,15 @@ pub fn bytes_ask_once()
     decode_laws::at_most_one();
     decode_laws::one_cause();
     valid_laws::one_cause();
+}
+
+/// The output of a valid module within the profile starts where the module's run ended: its fresh
+/// instance is the state that was reached, perhaps with more segments behind, which are empty.
+pub fn output_starts_as_reached()
+    ensures { OutputStartsAsReached }
+{
+    // For the proof: what is constant has a value, and chosen ranges lie within and cover.
+    valid_laws::valid_items();
+    wz_plan::laws::ranges_of_plan();
+    wz_snapshot::laws::chosen_segments();
 }
