@@ -70,7 +70,7 @@ by_marks marks front n (e ∷ es) below =
 element_same : (one other : Element) → one.kind ≡ other.kind → one.items ≡ other.items → one ≡ other
 element_same one other kinds items = ap (λ (k : RefKind). new_element k one.items) kinds ∙ ap (λ (is : List Reference). new_element other.kind is) items
 
-no_items : {X : Type 0} (xs : List X) → has_no_items xs ≡ true → xs ≡ []
+pub no_items : {X : Type 0} (xs : List X) → has_no_items xs ≡ true → xs ≡ []
 no_items [] h = refl
 no_items (x ∷ xs) h = let none = eqb-true (length (x ∷ xs)) 0 h in absurd (omega (arith, none))
 
@@ -78,7 +78,7 @@ no_length : {X : Type 0} (xs : List X) → length xs ≡ 0 → xs ≡ []
 no_length [] h = refl
 no_length (x ∷ xs) h = absurd (omega (arith, h))
 
-has_none : {X : Type 0} (xs : List X) → xs ≡ [] → has_no_items xs ≡ true
+pub has_none : {X : Type 0} (xs : List X) → xs ≡ [] → has_no_items xs ≡ true
 has_none xs e = ap (λ ys. has_no_items ys) e
 
 emptied : (w now : Element) → w.kind ≡ now.kind → (Some (record w { items = [] }) ≡ Some now) ⊎ (now.items ≡ []) → record w { items = [] } ≡ now

@@ -1,7 +1,7 @@
 -- The output's data segments are run through: what is left of each, and that the ranges are written.
 use Rattle.std.proofs.Common.{◌≡◌, ℕ, suc, ◌+◌, ◌<◌, ◌≤◌, ◌⊎◌, inl, inr, List, [], ◌∷◌, ◌++◌, length, map, Option, Some, None, Bool, true, false, ◌&&◌, if◌then◌else◌, slice_get, IsSomeAnd, refl, sym, ap, subst, ◌∙◌, arith, not}
 use Rattle.std.specs.List.{All}
-use Rattle.std.proofs.lemmas.Bool.{le-leb, eqb-true}
+use Rattle.std.proofs.lemmas.Bool.{le-leb}
 use Rattle.std.proofs.lemmas.List.{append_assoc, take_all}
 use Rattle.std.proofs.lemmas.List.Elements.{All-nil, All-cons, All-head, All-tail}
 use Rattle.wz_types.specs.declared.value.Value.TheVariants.{I32}
@@ -27,6 +27,7 @@ use Rattle.wz_init.specs.Instances.{Instance, DataUnfit, Fresh, instance_then}
 use Rattle.wz_init.specs.Instantiation.{copied, data_copied, data_run, datas_run}
 use Rattle.wz_top.proofs.FreshElementLemmas.{altered_there, found_there, one_longer}
 use Rattle.wz_top.proofs.FreshDataLemmas.{filled, bytes_left, all_left}
+use Rattle.wz_top.proofs.FreshKeptLemmas.{no_items, has_none}
 use Rattle.wz_top.proofs.FreshMemoryLemmas.{AreNear, IsNear, nearer}
 
 -- ---- the ranges among slots
@@ -175,13 +176,6 @@ module _ (m : Module) (targets : List Memory) (b : State) where
       (λ after front more closer. runs (index + 1) slots after front more (All-tail P (record { memory = number; at = at; len = len }) (heads slots) ranges) closer)
 
 -- ---- what is left begins with what the run left of the input's
-
-no_items : {X : Type 0} (xs : List X) → has_no_items xs ≡ true → xs ≡ []
-no_items [] h = refl
-no_items (x ∷ xs) h = let none = eqb-true (length (x ∷ xs)) 0 h in absurd (omega (arith, none))
-
-has_none : {X : Type 0} (xs : List X) → xs ≡ [] → has_no_items xs ≡ true
-has_none xs e = ap (λ ys. has_no_items ys) e
 
 -- a passive segment that the run dropped, or none of whose bytes were there, is empty; any other has its bytes
 passive_left : (bytes now : List ℕ) (one other : Bool) → has_no_items bytes ≡ one → has_no_items now ≡ other → (Some bytes ≡ Some now) ⊎ (now ≡ [])
