@@ -10,3 +10,11 @@ pub mod DeliverLemmas
 pub mod VerdictLaws
 pub mod InputLemmas
 pub mod RunLemmas
+pub mod FreshRunLemmas
+pub mod FreshPartsLemmas
+pub mod FreshElementLemmas
+pub mod FreshDataLemmas
+pub mod FreshMemoryLemmas
+pub mod FreshSlotLemmas
+pub mod FreshKeptLemmas
+pub mod FreshLaws

@@ -9,3 +9,4 @@ pub mod Verdict
 pub mod Asked
 pub mod Samples
 pub mod Making
+pub mod FreshOutput
