@@ -43,7 +43,7 @@ use Rattle.wz_init.proofs.AllocationLemmas.{allocated_by}
 use Rattle.wz_init.proofs.ConstantLemmas.{as_many_functions}
 use Rattle.wz_init.proofs.FreshLemmas.{was_allocated}
 use Rattle.wz_init.proofs.LeftLemmas.{phases_left}
-use Rattle.wz_init.proofs.FirstLemmas.{fresh_left}
+use Rattle.wz_init.proofs.LawLemmas.{fresh_is_reached}
 use Rattle.wz_top.specs.FreshOutput.{StartsAs, OutputStartsAsReached}
 use Rattle.wz_top.proofs.FreshRunLemmas.{AreWhole, phases_kept}
 use Rattle.wz_top.proofs.FreshPartsLemmas.{FitsIn, same_number, globals_given, elements_given, declared_elements, undeclared_there}
@@ -130,12 +130,13 @@ was_reached m order s ticks globals elements valid profile e = by (fresh m) refl
   where
     by : (f : Fresh) → fresh m ≡ f → ready_from m order f ≡ Reached s ticks → WasReached m s
     by (Instance first) is e =
-        let was = fresh_left m first profile (globals m valid) (elements m valid) is in
+        let was = fresh_is_reached globals elements m first valid profile is in
         let itself : IsLeftOf first first first = record {
           lasting = refl;
           tables = refl;
           segments = record { elements = λ i x here. inl here; datas = λ i x here. inl here };
           pages = was.left.pages;
+          sizes = was.left.sizes;
           fitting = was.left.fitting;
           own = was.left.own;
         } in
@@ -143,8 +144,8 @@ was_reached m order s ticks globals elements valid profile e = by (fresh m) refl
           first = first;
           was = was;
           made = is;
-          left = phases_left first first (phases m order) first order.fuel 0 s ticks itself e;
-          whole = λ whole. (phases_kept (phases m order) first order.fuel 0 s ticks (record { own = was.left.own; whole = whole }) e).whole;
+          left = phases_left first first (phases m.start order) first order.fuel 0 s ticks itself e;
+          whole = λ whole. (phases_kept (phases m.start order) first order.fuel 0 s ticks (record { own = was.left.own; whole = whole }) e).whole;
         }
     by (ElementUnfit index) is e = absurd (cc e)
     by (DataUnfit index) is e = absurd (cc e)

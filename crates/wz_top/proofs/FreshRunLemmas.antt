@@ -17,11 +17,12 @@ use Rattle.wz_machine.specs.Next.{next}
 use Rattle.wz_machine.specs.CallSteps.{starting_locals}
 use Rattle.wz_machine.specs.Entered.{entered, entered_callable, entered_body}
 use Rattle.wz_machine.specs.Replies.{put, put_inside}
-use Rattle.wz_init.specs.Run.{Stop, RunEnd, Returned, Stopped, head_changes_table, too_much, within_limits, TableWouldChange, is_granted, growth_change, growth_value, pages_at, run_question, run_on, run_from, run_standing, run}
+use Rattle.wz_init.specs.Run.{Stop, RunEnd, Returned, Stopped, too_much, within_limits, TableWouldChange, is_granted, growth_change, growth_value, pages_at, run_question, run_on, run_from, run_standing, run}
+use Rattle.wz_machine.specs.Advance.{head_changes_table}
 use Rattle.wz_init.specs.declared.order.Phase.{Phase}
 use Rattle.wz_init.specs.Ready.{Ready, Reached, phase_end, phases_run}
-use Rattle.wz_init.specs.Reached.{IsOwn, AreOwn, HoldsOwn}
-use Rattle.wz_init.proofs.FineLemmas.{IsFine, InsideOwn, TermOwn, AnswerFine, step_fine, own_append, own_zeros}
+use Rattle.wz_init.specs.Reached.{IsOwn, AreOwn, HoldsOwn, InsideOwn, TermOwn}
+use Rattle.wz_init.proofs.FineLemmas.{IsFine, AnswerFine, step_fine, own_append, own_zeros}
 use Rattle.wz_init.proofs.LeftLemmas.{own_on}
 
 abbrev pub IsWhole : Memory → Type 0
