@@ -25,6 +25,29 @@ const GLOBALS_AFTER: &[u8] = b"\x06\x06\x01\x7F\x01\x41\x2A\x0B";
 
 const EXPORTS_AFTER: &[u8] = b"\x07\x01\0";
 
+// A constant in two bytes; two functions, of which the first is the start and the second is
+// exported; a memory that grows.
+const PADDED_CODE: &[u8] = b"\x0A\x09\x01\x07\0\x41\xAA\0\x24\0\x0B";
+
+const TWO_FUNCTIONS: &[u8] = b"\x03\x03\x02\0\0";
+
+const SECOND_EXPORTED: &[u8] = b"\x07\x14\x01\x10wizer.initialize\0\x01";
+
+const START: &[u8] = b"\x08\x01\0";
+
+const SUM_CODE: &[u8] = b"\x0A\x12\x02\x06\0\x41\x0A\x24\0\x0B\x09\0\x23\0\x41\x05\x6A\x24\0\x0B";
+
+const GLOBAL_OF_FIFTEEN: &[u8] = b"\x06\x06\x01\x7F\x01\x41\x0F\x0B";
+
+const MEMORY: &[u8] = b"\x05\x04\x01\x01\x01\x02";
+
+const MEMORY_AFTER: &[u8] = b"\x05\x04\x01\x01\x02\x02";
+
+const GROWING_CODE: &[u8] =
+    b"\x0A\x13\x01\x11\0\x41\x01\x40\0\x1A\x41\xFF\xFF\x07\x41\xFF\x01\x3A\0\0\x0B";
+
+const DATA_AFTER: &[u8] = b"\x0B\x09\x01\0\x41\xFF\xFF\x07\x0B\x01\xFF";
+
 const WORDS: [&str; 3] = ["in.wasm", "-o", "out.wasm"];
 
 fn joined(alloc: Global, pieces: &[&[u8]]) -> Result<Vec<u8>, AllocError> {
@@ -67,17 +90,6 @@ fn ended(alloc: Global, words: &[&str], pieces: &[&[u8]]) -> Result<Ending, Allo
 #[test]
 fn modules_go_through(rt: HostRuntime) -> Result<(), Fail> {
     let alloc = rt.alloc();
-    let padded: &[u8] = b"\x0A\x09\x01\x07\0\x41\xAA\0\x24\0\x0B";
-    let two_functions: &[u8] = b"\x03\x03\x02\0\0";
-    let second: &[u8] = b"\x07\x14\x01\x10wizer.initialize\0\x01";
-    let start: &[u8] = b"\x08\x01\0";
-    let sum: &[u8] = b"\x0A\x12\x02\x06\0\x41\x0A\x24\0\x0B\x09\0\x23\0\x41\x05\x6A\x24\0\x0B";
-    let fifteen: &[u8] = b"\x06\x06\x01\x7F\x01\x41\x0F\x0B";
-    let memory: &[u8] = b"\x05\x04\x01\x01\x01\x02";
-    let grown: &[u8] = b"\x05\x04\x01\x01\x02\x02";
-    let growing: &[u8] =
-        b"\x0A\x13\x01\x11\0\x41\x01\x40\0\x1A\x41\xFF\xFF\x07\x41\xFF\x01\x3A\0\0\x0B";
-    let data: &[u8] = b"\x0B\x09\x01\0\x41\xFF\xFF\x07\x0B\x01\xFF";
     let table: [(&[&str], &[&[u8]], &[&[u8]], &str); 4] = [
         (
             &["in.wasm", "--output", "out.wasm", "--report"],
@@ -87,34 +99,49 @@ fn modules_go_through(rt: HostRuntime) -> Result<(), Fail> {
         ),
         (
             &["in.wasm", "-o", "out.wasm", "--fuel=3"],
-            &[HEADER, TYPES, FUNCTIONS, GLOBALS, EXPORTS, padded],
+            &[HEADER, TYPES, FUNCTIONS, GLOBALS, EXPORTS, PADDED_CODE],
             &[
                 HEADER,
                 TYPES,
                 FUNCTIONS,
                 GLOBALS_AFTER,
                 EXPORTS_AFTER,
-                padded,
+                PADDED_CODE,
             ],
             "",
         ),
         (
             &["in.wasm", "-o", "out.wasm", "--report"],
-            &[HEADER, TYPES, two_functions, GLOBALS, second, start, sum],
-            &[HEADER, TYPES, two_functions, fifteen, EXPORTS_AFTER, sum],
+            &[
+                HEADER,
+                TYPES,
+                TWO_FUNCTIONS,
+                GLOBALS,
+                SECOND_EXPORTED,
+                START,
+                SUM_CODE,
+            ],
+            &[
+                HEADER,
+                TYPES,
+                TWO_FUNCTIONS,
+                GLOBAL_OF_FIFTEEN,
+                EXPORTS_AFTER,
+                SUM_CODE,
+            ],
             "wizer: 8 ticks, 0 pages, 0 segments, 50 bytes\n",
         ),
         (
             &["in.wasm", "-o", "out.wasm", "--report"],
-            &[HEADER, TYPES, FUNCTIONS, memory, EXPORTS, growing],
+            &[HEADER, TYPES, FUNCTIONS, MEMORY, EXPORTS, GROWING_CODE],
             &[
                 HEADER,
                 TYPES,
                 FUNCTIONS,
-                grown,
+                MEMORY_AFTER,
                 EXPORTS_AFTER,
-                growing,
-                data,
+                GROWING_CODE,
+                DATA_AFTER,
             ],
             "wizer: 7 ticks, 2 pages, 1 segments, 59 bytes\n",
         ),
