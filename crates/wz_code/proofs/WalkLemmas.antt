@@ -3,7 +3,7 @@ use Rattle.std.proofs.Common.{◌≡◌, ℕ, zero, suc, ◌+◌, ◌<◌, List,
 use Rattle.std.proofs.lemmas.List.{append-nil}
 use Rattle.wz_code.specs.declared.instr.Instr.{Instr}
 use Rattle.wz_code.specs.BodyParts.{Blocks, block_at}
-use Rattle.wz_code.specs.Walking.{in_order, gathered, StopsAt}
+use Rattle.wz_code.specs.Walking.{in_order, gathered, WalkStopsAt}
 
 gathered-append : {M : Type 0} (after : Instr → M → M) (xs ys : List Instr) (m : M) → gathered after (xs ++ ys) m ≡ gathered after ys (gathered after xs m)
 gathered-append after [] ys m = refl
@@ -30,7 +30,7 @@ shows-next after block i d before at now h so_far seen =
 
 pub stops-at : {M E : Type 0} (after : Instr → M → M) (refuses : Instr → M → E → Type 0) (all block : List Instr) (i : ℕ) (d : Instr) (before at now : M) (fault : E)
     → all ≡ block → i < length block
-    → at ≡ gathered after (take i block) before → now ≡ at → refuses (get_or block i d) at fault → StopsAt after refuses all before now fault
+    → at ≡ gathered after (take i block) before → now ≡ at → refuses (get_or block i d) at fault → WalkStopsAt after refuses all before now fault
 stops-at after refuses all block i d before at now fault is h so_far kept cause = record {
   shown = take i block;
   refused = get_or block i d;
@@ -64,7 +64,7 @@ shows-block after blocks n before at now h so_far seen =
     ∙ ap (λ (is : List Instr). gathered after is before) (sym (in_order-taken blocks n h))
 
 pub stops-in : {M E : Type 0} (after : Instr → M → M) (refuses : Instr → M → E → Type 0) (blocks : Blocks) (n : ℕ) (before at now : M) (fault : E) → n < length blocks
-    → at ≡ gathered after (in_order (take n blocks)) before → StopsAt after refuses (block_at blocks n) at now fault → StopsAt after refuses (in_order blocks) before now fault
+    → at ≡ gathered after (in_order (take n blocks)) before → WalkStopsAt after refuses (block_at blocks n) at now fault → WalkStopsAt after refuses (in_order blocks) before now fault
 stops-in after refuses blocks n before at now fault h so_far stop =
     let front = in_order (take n blocks) in
     let back = in_order (drop (n + 1) blocks) in

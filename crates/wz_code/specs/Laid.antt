@@ -28,7 +28,7 @@ pub record IsLaid (parts : Parts) : Type 0 where
   pub body : IsBody (parts_of parts)
 
 -- without a place for the whole there is nothing but instructions of block 0
-pub record HasPlace (spare : Option (Box Whole)) (counts : List ℕ) (locals : List (ℕ × ValType)) (labels : List ℕ) (types : List ValType) : Type 0 where
+pub record HasWhole (spare : Option (Box Whole)) (counts : List ℕ) (locals : List (ℕ × ValType)) (labels : List ℕ) (types : List ValType) : Type 0 where
   pub one_block : IsNone spare → length counts ≡ 0
   pub no_locals : IsNone spare → length locals ≡ 0
   pub no_labels : IsNone spare → length labels ≡ 0
@@ -37,4 +37,4 @@ pub record HasPlace (spare : Option (Box Whole)) (counts : List ℕ) (locals : L
 pub record IsBuilt (code : List Instr) (settled : ℕ) (added : List (ℕ × Instr)) (counts : List ℕ) (spare : Option (Box Whole))
     (locals : List (ℕ × ValType)) (labels : List ℕ) (types : List ValType) : Type 0 where
   pub noted : IsNoted code settled added counts
-  pub place : HasPlace spare counts locals labels types
+  pub place : HasWhole spare counts locals labels types

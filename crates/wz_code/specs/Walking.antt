@@ -17,7 +17,7 @@ gathered after [] meaning = meaning
 gathered after (instr ∷ rest) meaning = gathered after rest (after instr meaning)
 
 -- a walk that was stopped by a fault: the instructions before the one that was refused were shown, and no other
-pub record StopsAt {M E : Type 0} (after : Instr → M → M) (refuses : Instr → M → E → Type 0) (all : List Instr) (before now : M) (fault : E) : Type 0 where
+pub record WalkStopsAt {M E : Type 0} (after : Instr → M → M) (refuses : Instr → M → E → Type 0) (all : List Instr) (before now : M) (fault : E) : Type 0 where
   pub shown : List Instr
   pub refused : Instr
   pub rest : List Instr

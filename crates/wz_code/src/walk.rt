@@ -3,7 +3,7 @@
 ghost use Rattle.std.specs.Prelude.{◌≡◌, OnOk, OnErr, IfErr};
 ghost use Rattle.wz_code.specs.declared.instr.Instr.{Instr};
 ghost use Rattle.wz_code.specs.BodyParts.{BodyParts, block_at};
-ghost use Rattle.wz_code.specs.Walking.{instrs_of, gathered, StopsAt};
+ghost use Rattle.wz_code.specs.Walking.{instrs_of, gathered, WalkStopsAt};
 
 use crate::body::Body;
 use crate::instr::Instr;
@@ -35,7 +35,7 @@ fn walk_block<V: Walk>(body: &Body, number: u32, visitor: &mut V) -> Result<(), 
     ensures all { let instrs = block_at body.now.blocks number in OnOk result
         (V.meaning visitor.new ≡ gathered (V.after body.now) instrs (V.meaning visitor.old)) }
     ensures fault { let instrs = block_at body.now.blocks number in IfErr result
-        (StopsAt (V.after body.now) (V.refuses body.now) instrs
+        (WalkStopsAt (V.after body.now) (V.refuses body.now) instrs
         (V.meaning visitor.old) (V.meaning visitor.new)) }
 {
     let Some(block) = body.block(number) else {
@@ -52,7 +52,7 @@ pub fn walk_body<V: Walk>(body: &Body, visitor: &mut V) -> Result<(), V::Fault>
     ensures all { let instrs = instrs_of body.now in OnOk result
         (V.meaning visitor.new ≡ gathered (V.after body.now) instrs (V.meaning visitor.old)) }
     ensures fault { let instrs = instrs_of body.now in IfErr result
-        (StopsAt (V.after body.now) (V.refuses body.now) instrs
+        (WalkStopsAt (V.after body.now) (V.refuses body.now) instrs
         (V.meaning visitor.old) (V.meaning visitor.new)) }
 {
     for number in 0..body.block_count() {

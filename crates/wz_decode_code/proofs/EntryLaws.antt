@@ -10,24 +10,24 @@ use Rattle.wz_decode_code.specs.Types.{IsValType, type_at}
 use Rattle.wz_decode_code.specs.Instructions.{IsU32}
 use Rattle.wz_decode_code.specs.InstrReading.{u32_at}
 use Rattle.wz_decode_code.specs.Code.{IsExpression}
-use Rattle.wz_decode_code.specs.Entry.{Run, IsRun, count_of, IsLocals, IsEntry, run_at, locals_at}
+use Rattle.wz_decode_code.specs.Entry.{Run, IsLocalsRun, locals_count, IsLocals, IsEntry, run_at, locals_at}
 use Rattle.wz_decode_code.specs.Reading.{expression_at, entry_at}
 use Rattle.wz_decode_code.specs.Laws.{OneEntry}
 use Rattle.wz_decode_code.proofs.TypeLaws.{type_exact}
 use Rattle.wz_decode_code.proofs.OperandLaws.{u32_exact}
 use Rattle.wz_decode_code.proofs.CodeLaws.{expression_exact}
 
-pub run_exact : IsExact (λ t run. IsRun t run) (λ b. run_at b)
+pub run_exact : IsExact (λ t run. IsLocalsRun t run) (λ b. run_at b)
 run_exact = both_exact (λ t n. IsU32 t n) (λ t type. IsValType t type) (λ b. u32_at b) (λ b. type_at b) u32_exact type_exact
 
-runs_exact : IsExact (λ t runs. IsVector (λ t run. IsRun t run) t runs) (λ b. vector_at (λ b. run_at b) b)
-runs_exact = vector_exact (λ t run. IsRun t run) (λ b. run_at b) run_exact
+runs_exact : IsExact (λ t runs. IsVector (λ t run. IsLocalsRun t run) t runs) (λ b. vector_at (λ b. run_at b) b)
+runs_exact = vector_exact (λ t run. IsLocalsRun t run) (λ b. run_at b) run_exact
 
 pub locals_exact : IsExact (λ t runs. IsLocals t runs) (λ b. locals_at b)
 locals_exact = record {
   found = λ bytes runs rest e.
       let x = bind_some (vector_at (λ b. run_at b) bytes) _ _ e in
-      let g = guarded (nat_lt (count_of x.0.0) (2 ^ 32)) _ _ x.2 in
+      let g = guarded (nat_lt (locals_count x.0.0) (2 ^ 32)) _ _ x.2 in
       let f = runs_exact.found bytes x.0.0 x.0.1 x.1 in
       subst (λ (w : List Run × List ℕ). Front (λ t runs. IsLocals t runs) bytes w.0 w.1) (some_is _ _ g.1)
       (record { text = f.text; parts = f.parts; spelled = (f.spelled, ltb-true _ _ g.0) });

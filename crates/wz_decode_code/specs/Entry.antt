@@ -14,28 +14,28 @@ use Rattle.wz_decode_code.specs.Code.{IsExpression}
 abbrev pub Run : Type 0
 Run = ℕ × ValType
 
-abbrev pub IsRun : List ℕ → Run → Type 0
-IsRun text run = Both (λ t n. IsU32 t n) (λ t type. IsValType t type) text run
+abbrev pub IsLocalsRun : List ℕ → Run → Type 0
+IsLocalsRun text run = Both (λ t n. IsU32 t n) (λ t type. IsValType t type) text run
 
 -- how many locals the runs are in all
-abbrev pub count_of : List Run → ℕ
-count_of [] = 0
-count_of (run ∷ runs) = run.0 + count_of runs
+abbrev pub locals_count : List Run → ℕ
+locals_count [] = 0
+locals_count (run ∷ runs) = run.0 + locals_count runs
 
 -- the locals of a function: runs of them, and fewer than 2^32 in all
 abbrev pub IsLocals : List ℕ → List Run → Type 0
-IsLocals text runs = IsVector (λ t run. IsRun t run) text runs × (count_of runs < 2 ^ 32)
+IsLocals text runs = IsVector (λ t run. IsLocalsRun t run) text runs × (locals_count runs < 2 ^ 32)
 
 -- a function's locals and its instructions
-abbrev pub Entry : Type 0
-Entry = List Run × Code
+abbrev pub CodeEntry : Type 0
+CodeEntry = List Run × Code
 
-abbrev pub IsEntry : List ℕ → Entry → Type 0
+abbrev pub IsEntry : List ℕ → CodeEntry → Type 0
 IsEntry text entry = Both (λ t runs. IsLocals t runs) (λ t code. IsExpression t code) text entry
 
 -- what a body is of this
-abbrev pub entry_of : BodyParts → Entry
-entry_of body = (body.locals, tree_of body 0)
+abbrev pub code_entry_of : BodyParts → CodeEntry
+code_entry_of body = (body.locals, tree_of body 0)
 
 -- ---- what stands in front of bytes
 
@@ -43,7 +43,7 @@ abbrev pub run_at : List ℕ → Option (Run × List ℕ)
 run_at bytes = both_at (λ b. unsigned_at 32 b) (λ b. type_at b) bytes
 
 abbrev pub checked : List Run × List ℕ → Option (List Run × List ℕ)
-checked x = if nat_lt (count_of x.0) (2 ^ 32) then Some x else None
+checked x = if nat_lt (locals_count x.0) (2 ^ 32) then Some x else None
 
 abbrev pub locals_at : List ℕ → Option (List Run × List ℕ)
 locals_at bytes = vector_at (λ b. run_at b) bytes >>= λ x. checked x

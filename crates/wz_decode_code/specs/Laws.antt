@@ -6,7 +6,7 @@ use Rattle.wz_decode_code.specs.declared.fault.CodeFault.{CodeFault}
 use Rattle.wz_decode_code.specs.declared.fault.CodeFault.TheVariants.{Bad, NoMemory}
 use Rattle.wz_decode_code.specs.Types.{IsValType, IsRefKind, type_at, kind_at}
 use Rattle.wz_decode_code.specs.Code.{IsExpression}
-use Rattle.wz_decode_code.specs.Entry.{Entry, IsEntry}
+use Rattle.wz_decode_code.specs.Entry.{CodeEntry, IsEntry}
 use Rattle.wz_decode_code.specs.Reading.{expression_at, entry_at}
 
 -- what a reading of the front gave, as a function of the bytes
@@ -25,7 +25,7 @@ abbrev pub OneExpression : Type 0
 OneExpression = OneFront IsExpression
 
 abbrev pub OneEntry : Type 0
-OneEntry = (bytes : List ℕ) (a b : Entry) → IsEntry bytes a → IsEntry bytes b → a ≡ b
+OneEntry = (bytes : List ℕ) (a b : CodeEntry) → IsEntry bytes a → IsEntry bytes b → a ≡ b
 
 -- ---- the reading as a function gives just what the bytes spell
 

@@ -4,7 +4,7 @@ use Rattle.wz_bytes.specs.Reading.{◌>>=◌}
 use Rattle.wz_bytes.specs.Forms.{both_at}
 use Rattle.wz_code.specs.declared.instr.Shape.{Shape}
 use Rattle.wz_code.specs.Trees.{Code, End, Then, InBlock, InLoop, InIf, joined}
-use Rattle.wz_decode_code.specs.Entry.{Entry, locals_at}
+use Rattle.wz_decode_code.specs.Entry.{CodeEntry, locals_at}
 use Rattle.wz_decode_code.specs.Tokens.{Symbol, Single, BeginsBlock, BeginsLoop, BeginsIf, Else, Ends, symbol_at}
 
 -- which part of its parent an open block is; the second arm of an if has the first one with it
@@ -74,5 +74,5 @@ abbrev pub expression_at : List ℕ → Option (Code × List ℕ)
 expression_at bytes = reads bytes End []
 
 -- the locals and instructions that stand in front of the bytes, and the bytes behind them
-abbrev pub entry_at : List ℕ → Option (Entry × List ℕ)
+abbrev pub entry_at : List ℕ → Option (CodeEntry × List ℕ)
 entry_at bytes = both_at (λ b. locals_at b) (λ b. expression_at b) bytes

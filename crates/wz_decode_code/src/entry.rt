@@ -4,7 +4,7 @@ ghost use Rattle.std.specs.Prelude.{◌≡◌, ◌<◌, ◌+◌, ◌-◌, ◌^�
 ghost use Rattle.wz_bytes.specs.Place.{GivesFront};
 ghost use Rattle.wz_bytes.specs.Forms.{items_at};
 ghost use Rattle.wz_decode_code.specs.declared.fault.CodeFault.TheVariants.{Bad};
-ghost use Rattle.wz_decode_code.specs.Entry.{IsEntry, entry_of, run_at, locals_at, count_of};
+ghost use Rattle.wz_decode_code.specs.Entry.{IsEntry, code_entry_of, run_at, locals_at, locals_count};
 ghost use Rattle.wz_decode_code.specs.Pools.{RunsAdded, LocalsRead};
 ghost use Rattle.wz_decode_code.specs.Laws.{SpellsNone};
 
@@ -20,7 +20,7 @@ use wz_types::ValType;
 /// section 5.5.13).
 pub fn read_body(alloc: Global, bytes: &[u8]) -> Result<Body, CodeFault>
     requires { length bytes.now < 2 ^ 32 - 1 }
-    ensures found { IfOk result (λ body. IsEntry bytes.now (entry_of body)) }
+    ensures found { IfOk result (λ body. IsEntry bytes.now (code_entry_of body)) }
     ensures bad { IsErrOf result Bad → SpellsNone (λ t entry. IsEntry t entry) bytes.now }
 {
     let mut builder = BodyBuilder::new(alloc);
@@ -60,7 +60,7 @@ fn add_runs(
     ensures ok { let added = RunsAdded count cursor.old.left builder.old in
         IfOk result (λ r. added builder.new cursor.new.left) }
     ensures total { let runs = drop (length builder.old.locals) builder.new.locals in
-        IfOk result (λ r. r ≡ count_of runs) }
+        IfOk result (λ r. r ≡ locals_count runs) }
     ensures bad { IsErrOf result Bad → items_at (λ b. run_at b) count cursor.old.left ≡ None }
 {
     let mut total = 0;

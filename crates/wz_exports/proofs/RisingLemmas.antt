@@ -6,7 +6,7 @@ use Rattle.std.specs.List.Sorted.{IsStrictlyIncreasing}
 use Rattle.std.proofs.lemmas.Bool.{eqb-true, eq-eqb, ltb-true, ltb-false}
 use Rattle.std.proofs.lemmas.List.Elements.{All-head}
 use Rattle.std.proofs.lemmas.List.Kept.{AllPairs-from_increasing}
-use Rattle.wz_exports.specs.Undeclared.{is_among, with_number, rising}
+use Rattle.wz_exports.specs.Undeclared.{is_among, number_inserted, rising}
 use Rattle.wz_exports.proofs.KeptLemmas.{pairs-head, pairs-tail}
 
 -- numbers that rise, from this one on
@@ -86,22 +86,22 @@ or-twice false b = refl
 between : (a b : ℕ) → nat_lt b a ≡ false → nat_lt a b ≡ false → a ≡ b
 between a b p q = let h = ltb-false b a p in let k = ltb-false a b q in omega (arith, h, k)
 
-pub has-number : (f : ℕ) (ns : List ℕ) (k : ℕ) → is_among f (with_number ns k) ≡ ((f == k) || is_among f ns)
+pub has-number : (f : ℕ) (ns : List ℕ) (k : ℕ) → is_among f (number_inserted ns k) ≡ ((f == k) || is_among f ns)
 has-number f [] k = refl
 has-number f (n ∷ ns) k = by (nat_lt k n) (nat_lt n k) refl refl (has-number f ns k) where
-  by : (s t : Bool) → nat_lt k n ≡ s → nat_lt n k ≡ t → is_among f (with_number ns k) ≡ ((f == k) || is_among f ns)
-      → is_among f (cond s (k ∷ n ∷ ns) (cond t (n ∷ with_number ns k) (n ∷ ns))) ≡ ((f == k) || is_among f (n ∷ ns))
+  by : (s t : Bool) → nat_lt k n ≡ s → nat_lt n k ≡ t → is_among f (number_inserted ns k) ≡ ((f == k) || is_among f ns)
+      → is_among f (cond s (k ∷ n ∷ ns) (cond t (n ∷ number_inserted ns k) (n ∷ ns))) ≡ ((f == k) || is_among f (n ∷ ns))
   by true t p q later = refl
   by false true p q later = ap (λ (b : Bool). (f == n) || b) later ∙ or-swap (f == n) (f == k) (is_among f ns)
   by false false p q later =
       let e : n ≡ k = between n k p q in
       sym (or-twice (f == n) (is_among f ns)) ∙ ap (λ (m : ℕ). (f == m) || ((f == n) || is_among f ns)) e
 
-pub keeps-rising : (low : ℕ) (ns : List ℕ) (k : ℕ) → AtLeast low ns → low ≤ k → AtLeast low (with_number ns k)
+pub keeps-rising : (low : ℕ) (ns : List ℕ) (k : ℕ) → AtLeast low ns → low ≤ k → AtLeast low (number_inserted ns k)
 keeps-rising low [] k rises more = (more, tt)
 keeps-rising low (n ∷ ns) k rises more = by (nat_lt k n) (nat_lt n k) refl refl (keeps-rising (n + 1) ns k rises.1) where
-  by : (s t : Bool) → nat_lt k n ≡ s → nat_lt n k ≡ t → (n + 1 ≤ k → AtLeast (n + 1) (with_number ns k))
-      → AtLeast low (cond s (k ∷ n ∷ ns) (cond t (n ∷ with_number ns k) (n ∷ ns)))
+  by : (s t : Bool) → nat_lt k n ≡ s → nat_lt n k ≡ t → (n + 1 ≤ k → AtLeast (n + 1) (number_inserted ns k))
+      → AtLeast low (cond s (k ∷ n ∷ ns) (cond t (n ∷ number_inserted ns k) (n ∷ ns)))
   by true t p q later = let h = ltb-true k n p in (more, (omega (arith, h), rises.1))
   by false true p q later = let h = ltb-true n k q in (rises.0, later (omega (arith, h)))
   by false false p q later = rises

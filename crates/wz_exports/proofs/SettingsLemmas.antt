@@ -11,7 +11,7 @@ use Rattle.wz_words.specs.declared.settings.Usage.{Usage}
 use Rattle.wz_words.specs.Options.{Valued, Output, Function, RenameFunction, Fuel, SampleNumber, same_valued, same_text}
 use Rattle.wz_words.specs.Parts.{Part, Operand, FlagPart, ValuedPart, UnknownPart, Halves, halves_of, command_parts}
 use Rattle.wz_words.specs.Settings.{Settings, values_of, with_halves, renames_of, asked}
-use Rattle.wz_words.specs.Faults.{renames_limit, bytes_in, renames_to, renames_from, rename_fault, fault_of, or_later, first_fault, unless_fault, settings}
+use Rattle.wz_words.specs.Faults.{renames_limit, bytes_together, renames_to, renames_from, rename_fault, fault_of, or_later, first_fault, unless_fault, settings}
 use Rattle.wz_words.proofs.RenamesLaws.{same_is_pointwise}
 
 -- ---- lists of renames
@@ -93,7 +93,7 @@ new_rename : (earlier : List (List ℕ)) (at : ℕ) (value : List ℕ) (o : Opti
     → AreApart (renames_of earlier ++ with_halves o [])
 new_rename earlier at value None apart fine = absurd cc
 new_rename earlier at value (Some h) apart fine =
-    by (nat_lt renames_limit (bytes_in earlier + length value)) (renames_to h.front (renames_of earlier)) (renames_from h.back (renames_of earlier)) refl refl fine where
+    by (nat_lt renames_limit (bytes_together earlier + length value)) (renames_to h.front (renames_of earlier)) (renames_from h.back (renames_of earlier)) refl refl fine where
       by : (l t f : Bool) → renames_to h.front (renames_of earlier) ≡ t → renames_from h.back (renames_of earlier) ≡ f
           → cond l (Some (RenamesTooLong at)) (cond t (Some (RenameTwiceTo at)) (cond f (Some (RenameTwiceFrom at)) None)) ≡ None
           → AreApart (renames_of earlier ++ with_halves (Some h) [])

@@ -12,9 +12,9 @@ use Rattle.wz_exports.specs.declared.fault.ExportFault.TheVariants.{NoMemory}
 use Rattle.wz_exports.specs.Names.{target_named, renamed_to}
 
 -- a call gives what is asked for, unless the memory didn't suffice
-abbrev pub Answers : {X : Type 0} → Result X ExportFault → Result X ExportFault → Type 0
-Answers (Ok x) asked = asked ≡ Ok x
-Answers (Err fault) asked = (fault ≡ NoMemory) ⊎ (asked ≡ Err fault)
+abbrev pub IsAnsweredAs : {X : Type 0} → Result X ExportFault → Result X ExportFault → Type 0
+IsAnsweredAs (Ok x) asked = asked ≡ Ok x
+IsAnsweredAs (Err fault) asked = (fault ≡ NoMemory) ⊎ (asked ≡ Err fault)
 
 -- a call refuses what has a fault, for that fault, unless the memory didn't suffice
 abbrev pub Refuses : {X : Type 0} → Result X ExportFault → Option ExportFault → Type 0

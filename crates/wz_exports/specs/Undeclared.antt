@@ -75,17 +75,17 @@ abbrev pub is_among : ℕ → List ℕ → Bool
 is_among number numbers = list_any (λ other. number == other) numbers
 
 -- rising numbers and one more, in its place, unless it is there
-abbrev pub with_number : List ℕ → ℕ → List ℕ
-with_number [] number = number ∷ []
-with_number (first ∷ numbers) number =
+abbrev pub number_inserted : List ℕ → ℕ → List ℕ
+number_inserted [] number = number ∷ []
+number_inserted (first ∷ numbers) number =
     if nat_lt number first then number ∷ first ∷ numbers
-    else (if nat_lt first number then first ∷ with_number numbers number
+    else (if nat_lt first number then first ∷ number_inserted numbers number
     else first ∷ numbers)
 
 -- the numbers of a list, each once, from the lowest on
 abbrev pub rising : List ℕ → List ℕ
 rising [] = []
-rising (number ∷ numbers) = with_number (rising numbers) number
+rising (number ∷ numbers) = number_inserted (rising numbers) number
 
 -- the functions that bodies name and that occur nowhere else
 abbrev pub undeclared_functions : Module → RecordedState → KeptExports → List ℕ

@@ -12,7 +12,7 @@ ghost use Rattle.wz_exports.specs.Names.{target_named};
 ghost use Rattle.wz_exports.specs.Kept.{function_named, reactor_in, leaves, kept_name};
 ghost use Rattle.wz_exports.specs.Kept.{kept_exports, under_name};
 ghost use Rattle.wz_exports.specs.Kept.{misnamed_at, first_misnamed, kept};
-ghost use Rattle.wz_exports.specs.Answers.{Answers, Refuses, HasTargets, HasNewNames};
+ghost use Rattle.wz_exports.specs.Answers.{IsAnsweredAs, Refuses, HasTargets, HasNewNames};
 ghost use Rattle.wz_exports.specs.declared.fault.ExportFault.TheVariants.{NoMemory};
 
 use crate::fault::ExportFault;
@@ -36,7 +36,7 @@ fn function_named(
     name: &str,
 ) -> Result<u32, ExportFault>
     requires { HasTargets targets.now (module_of «module».now).exports }
-    ensures { Answers result (function_named (module_of «module».now) name.now) }
+    ensures { IsAnsweredAs result (function_named (module_of «module».now) name.now) }
 {
     let target = targets.get(name).copied();
     let name = Text::new(alloc, name)?;
@@ -63,7 +63,7 @@ fn reactor_in(
     settings: &Settings,
 ) -> Result<Option<u32>, ExportFault>
     requires { HasTargets targets.now (module_of «module».now).exports }
-    ensures { Answers result (reactor_in (module_of «module».now) (settings_of settings.now)) }
+    ensures { IsAnsweredAs result (reactor_in (module_of «module».now) (settings_of settings.now)) }
 {
     if !settings.reactor {
         return Ok(None);

@@ -38,7 +38,7 @@ made_files Standard files = files
 made_files (File path) files = insert files path []
 
 -- an output of that name, open, which holds nothing yet
-pub record IsMade (name : Name) (made : Stream) : Type 0 where
+pub record IsCreated (name : Name) (made : Stream) : Type 0 where
   pub current : stream_current made ≡ Some (record { side = side.Output; name = name; opened = true; failed = false })
   pub files : (entries : List Entry) → stream_files entries made ≡ made_files name (contents entries)
 

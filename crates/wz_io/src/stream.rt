@@ -7,7 +7,7 @@ ghost use Rattle.wz_io.specs.World.{IsOpenOn, name_of, input_of};
 ghost use Rattle.wz_io.specs.Calls.{with_failure, with_end};
 ghost use Rattle.wz_io.specs.Names.{owned_name};
 ghost use Rattle.wz_io.specs.Memory.{contents};
-ghost use Rattle.wz_io.specs.Stream.{stream_current, stream_files, memory_told, items_of, KeepsFile, IsMade, Adds};
+ghost use Rattle.wz_io.specs.Stream.{stream_current, stream_files, memory_told, items_of, KeepsFile, IsCreated, Adds};
 ghost use Rattle.wz_io.specs.declared.files.Side.TheVariants.{Output};
 
 use crate::FileName;
@@ -101,7 +101,7 @@ pub fn set_closed(stream: &mut Stream)
 
 /// An output of this name, open, which holds nothing yet.
 pub fn make_output(alloc: Global, name: OwnedName) -> Stream
-    ensures { IsMade (owned_name name) result }
+    ensures { IsCreated (owned_name name) result }
 {
     match name {
         OwnedName::Standard => Stream::Stdout {

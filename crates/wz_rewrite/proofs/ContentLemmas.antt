@@ -34,7 +34,7 @@ use Rattle.wz_encode.proofs.ElementsWritten.{elements_are_spelled, declaration_i
 use Rattle.wz_snapshot.specs.declared.segment.ChosenSegment.{ChosenSegment}
 use Rattle.wz_rewrite.specs.OutputState.{OutputState, HasRange}
 use Rattle.wz_rewrite.specs.Dropped.{is_passive, was_emptied, was_dropped, is_empty_at, dropped_from, dropped_elements}
-use Rattle.wz_rewrite.specs.Slots.{passive_slot, head_of, slots_at, slots_from, output_slots, behind_slot, with_behind, filled_slots}
+use Rattle.wz_rewrite.specs.Slots.{passive_slot, head_slot, slots_at, slots_from, output_slots, behind_slot, with_behind, filled_slots}
 use Rattle.wz_rewrite.specs.Segments.{segments_of}
 use Rattle.wz_rewrite.specs.Parts.{memory_of_size, output_memories, global_types, output_globals, output_elements, count_where_one_was}
 use Rattle.wz_rewrite.specs.Sections.{renewed_elements}
@@ -178,13 +178,13 @@ CanStand memories c = HasRange memories c × CanBeRange memories c
 abbrev SlotCan : List Memory → Slot → Type 0
 SlotCan memories slot = CanBeSegment slot (behind_slot memories slot)
 
-head_can : (memories : List Memory) (c : ChosenSegment) → CanStand memories c → SlotCan memories (head_of c)
+head_can : (memories : List Memory) (c : ChosenSegment) → CanStand memories c → SlotCan memories (head_slot c)
 head_can memories c h = (h.1.0, h.1.1, length_in (slice_get memories c.memory) c.at c.len h.0, h.1.2)
 
-heads_can : (memories : List Memory) (chosen : List ChosenSegment) → All (λ c. CanStand memories c) chosen → All (λ s. SlotCan memories s) (map head_of chosen)
+heads_can : (memories : List Memory) (chosen : List ChosenSegment) → All (λ c. CanStand memories c) chosen → All (λ s. SlotCan memories s) (map head_slot chosen)
 heads_can memories [] h = All-nil (λ (s : Slot). SlotCan memories s)
 heads_can memories (c ∷ chosen) h =
-    All-cons (λ (s : Slot). SlotCan memories s) (head_of c) (map head_of chosen) (head_can memories c (All-head (λ (c : ChosenSegment). CanStand memories c) c chosen h))
+    All-cons (λ (s : Slot). SlotCan memories s) (head_slot c) (map head_slot chosen) (head_can memories c (All-head (λ (c : ChosenSegment). CanStand memories c) c chosen h))
     (heads_can memories chosen (All-tail (λ (c : ChosenSegment). CanStand memories c) c chosen h))
 
 slots_at_can : (memories : List Memory) (mode : DataMode) (bytes : List ℕ) (empty : Bool) (chosen : List ChosenSegment) (others : List ChosenSegment → List Slot)
@@ -204,7 +204,7 @@ slots_at_can memories PassiveData bytes empty chosen others can all more =
 slots_at_can memories (ActiveData memory offset) bytes empty [] others can all more =
     All-cons (λ (s : Slot). SlotCan memories s) EmptySlot (others []) refl (more [] all)
 slots_at_can memories (ActiveData memory offset) bytes empty (c ∷ chosen) others can all more =
-    All-cons (λ (s : Slot). SlotCan memories s) (head_of c) (others chosen) (head_can memories c (All-head (λ (c : ChosenSegment). CanStand memories c) c chosen all))
+    All-cons (λ (s : Slot). SlotCan memories s) (head_slot c) (others chosen) (head_can memories c (All-head (λ (c : ChosenSegment). CanStand memories c) c chosen all))
     (more chosen (All-tail (λ (c : ChosenSegment). CanStand memories c) c chosen all))
 
 slots_can : (memories : List Memory) (marks : List Bool) (number : ℕ) (datas : List DataSegment) (chosen : List ChosenSegment)

@@ -24,7 +24,7 @@ use Rattle.wz_rewrite.specs.OutputState.{output_state}
 use Rattle.wz_rewrite.specs.Slots.{output_slots, filled_slots, with_behind}
 use Rattle.wz_rewrite.specs.Dropped.{dropped_elements}
 use Rattle.wz_rewrite.specs.Output.{output_module}
-use Rattle.wz_rewrite.specs.ValidOutput.{HasTypesOf, FitsGlobal, IsWithinMaximum}
+use Rattle.wz_rewrite.specs.ValidOutput.{HasTypesOf, FitsGlobal, AllowsPages}
 use Rattle.wz_rewrite.proofs.NumberLemmas.{Has, AreIn, or-cases, has-first, has-second, in-both, flat-agree, segment-same, target-same}
 use Rattle.wz_rewrite.proofs.ConstantLemmas.{begun-refs, begun-kinds}
 use Rattle.wz_rewrite.proofs.SizeLemmas.{grown-count}
@@ -114,7 +114,7 @@ module _ (m : Module) (r : RecordedState) (memories : List Memory) (k : KeptExpo
   pub same-memories : length (imported_memories m.imports ++ out.memories) ≡ length (imported_memories m.imports ++ m.memories)
   same-memories =
       length-append (imported_memories m.imports) out.memories
-      ∙ ap (λ (n : ℕ). length (imported_memories m.imports) + n) (grown-count (λ memory p. IsWithinMaximum memory p) m.memories r.pages types.sizes)
+      ∙ ap (λ (n : ℕ). length (imported_memories m.imports) + n) (grown-count (λ memory p. AllowsPages memory p) m.memories r.pages types.sizes)
       ∙ sym (length-append (imported_memories m.imports) m.memories)
 
   pub same-globals : imported_globals m.imports ++ map (λ g. g.kind) out.globals ≡ imported_globals m.imports ++ map (λ g. g.kind) m.globals

@@ -8,7 +8,7 @@ use Rattle.wz_module.specs.Sections.{Section, section_rank, ranks_of, Rises, pay
 use Rattle.wz_module.specs.Module.{Module}
 use Rattle.wz_rewrite.specs.OutputState.{OutputState}
 use Rattle.wz_rewrite.specs.Sections.{output_payload, lacks, elements_before, brings_elements, new_elements, brings_datas, new_datas, section_with, sections_for, output_sections}
-use Rattle.wz_rewrite.specs.Laws.{AreInOrder}
+use Rattle.wz_rewrite.specs.Laws.{SectionsAreInOrder}
 use Rattle.wz_rewrite.proofs.SectionLemmas.{none_of}
 
 -- ---- ranks
@@ -225,6 +225,6 @@ module _ (m : Module) (o : OutputState) where
     ];
   }
 
-  pub output_in_order : AreInOrder m.sections → AreInOrder (output_sections m o)
+  pub output_in_order : SectionsAreInOrder m.sections → SectionsAreInOrder (output_sections m o)
   output_in_order order =
       all_rises m.sections 0 0 (λ id suits lower. elim (cases_Bool (brings_elements m o id)) [ inl b ↦ rw b (lit< tt) | inr b ↦ rw b lower ]) all_suit order

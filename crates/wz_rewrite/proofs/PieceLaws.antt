@@ -16,11 +16,11 @@ use Rattle.wz_encode.specs.SectionText.{section_text}
 use Rattle.wz_snapshot.specs.declared.segment.ChosenSegment.{ChosenSegment}
 use Rattle.wz_rewrite.specs.OutputState.{OutputState, HasRanges}
 use Rattle.wz_rewrite.specs.Dropped.{was_emptied, is_empty_at}
-use Rattle.wz_rewrite.specs.Slots.{slots_from, slots_at, head_of, output_slots, with_behind, filled_slots}
+use Rattle.wz_rewrite.specs.Slots.{slots_from, slots_at, head_slot, output_slots, with_behind, filled_slots}
 use Rattle.wz_rewrite.specs.Sections.{lacks, datas_text, renewed_elements, output_payload, brings_elements, new_elements, brings_datas, new_datas, section_with, sections_for}
 use Rattle.wz_rewrite.specs.Output.{sections_text}
 use Rattle.wz_rewrite.specs.Pieces.{OutputPiece, KeptPiece, MadePiece, RangePiece, piece_text, pieces_text, pieces_length, range_of_piece, piece_ranges, kept_of_piece, keeps_elements, keeps_contents, payload_if_kept, slot_pieces, slots_pieces, elements_pieces, contents_pieces, new_elements_pieces, new_datas_pieces, section_pieces, pieces_for, output_pieces}
-use Rattle.wz_rewrite.specs.Laws.{AreInOrder, PiecesAreOutput, PiecesAreChosen, PiecesAreKept}
+use Rattle.wz_rewrite.specs.Laws.{SectionsAreInOrder, PiecesAreOutput, PiecesAreChosen, PiecesAreKept}
 use Rattle.wz_rewrite.proofs.WritingLemmas.{length-pieces_text}
 use Rattle.wz_rewrite.proofs.IdLemmas.{by_id, flat_map_each, flat_map_parts, flat_map_nil, flat_map_same, flat_map_left, flat_map_right}
 use Rattle.wz_rewrite.proofs.SectionLemmas.{flat_map_none, flat_map_once, no_items, none_of, some_of, some_from, and_true, and_false}
@@ -67,7 +67,7 @@ pieces_are_kept m o = flat_map_each kept_of_piece (λ s. pieces_for m o s) (λ s
 
 -- ---- ranges in the data section
 
-heads_ranges : (chosen : List ChosenSegment) → flat_map range_of_piece (flat_map slot_pieces (map head_of chosen)) ≡ chosen
+heads_ranges : (chosen : List ChosenSegment) → flat_map range_of_piece (flat_map slot_pieces (map head_slot chosen)) ≡ chosen
 heads_ranges [] = refl
 heads_ranges (c ∷ chosen) = ap (λ (cs : List ChosenSegment). c ∷ cs) (heads_ranges chosen)
 
@@ -204,7 +204,7 @@ place_ranges m o s =
     (new_elements_ranges m o s.id) (contents_ranges m o s.payload s.id) (new_datas_ranges m o s.id)
 
 -- the code section brings the ranges where there is no data section
-brought : (m : Module) (o : OutputState) (code : List ℕ) → AreInOrder m.sections → payload_of 10 m.sections ≡ Some code → lacks 11 m.sections ≡ true
+brought : (m : Module) (o : OutputState) (code : List ℕ) → SectionsAreInOrder m.sections → payload_of 10 m.sections ≡ Some code → lacks 11 m.sections ≡ true
     → flat_map (λ (s : Section). more_ranges m o s) m.sections ≡ o.chosen
 brought m o code order there none = elim (cases_Bool (has_no_items o.chosen)) [
   | inl e ↦

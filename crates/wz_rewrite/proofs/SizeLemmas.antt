@@ -8,7 +8,7 @@ use Rattle.std.proofs.lemmas.List.Sums.{sum_by-cons, get_or-le-sum_by}
 use Rattle.wz_types.specs.declared.types.MemType.{MemType}
 use Rattle.wz_valid.specs.Limits.{IsMaximumOk, IsMemoryOk}
 use Rattle.wz_rewrite.specs.Parts.{memory_of_size}
-use Rattle.wz_rewrite.specs.ValidOutput.{IsWithinMaximum}
+use Rattle.wz_rewrite.specs.ValidOutput.{AllowsPages}
 
 abbrev pub grown : List MemType → List ℕ → List MemType
 grown memories pages = map memory_of_size (zip memories pages)
@@ -36,7 +36,7 @@ maximum-ok : (max : Option ℕ) (min pages range : ℕ) → IsMaximumOk max min 
 maximum-ok None min pages range ok within = tt
 maximum-ok (Some max) min pages range ok within = (ok.0, within)
 
-pub grown-ok : (memories : List MemType) (pages : List ℕ) → AllZip (λ memory p. IsWithinMaximum memory p) memories pages → All (λ p. p ≤ 2 ^ 16) pages
+pub grown-ok : (memories : List MemType) (pages : List ℕ) → AllZip (λ memory p. AllowsPages memory p) memories pages → All (λ p. p ≤ 2 ^ 16) pages
     → All IsMemoryOk memories → All IsMemoryOk (grown memories pages)
 grown-ok [] [] h few ok = All-nil IsMemoryOk
 grown-ok [] (p ∷ pages) h few ok = absurd h

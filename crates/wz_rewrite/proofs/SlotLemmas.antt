@@ -10,7 +10,7 @@ use Rattle.wz_valid_code.specs.Typing.{IsConstant}
 use Rattle.wz_encode.specs.Datas.{Slot, PassiveSlot, EmptySlot, HeadSlot, segment_of}
 use Rattle.wz_snapshot.specs.declared.segment.ChosenSegment.{ChosenSegment}
 use Rattle.wz_rewrite.specs.Dropped.{was_emptied, is_empty_at}
-use Rattle.wz_rewrite.specs.Slots.{passive_slot, head_of, active_slots, slots_at, slots_from, with_behind}
+use Rattle.wz_rewrite.specs.Slots.{passive_slot, head_slot, active_slots, slots_at, slots_from, with_behind}
 use Rattle.wz_rewrite.proofs.ConstantLemmas.{address-ok}
 
 -- ---- what holds of each slot
@@ -42,7 +42,7 @@ module _ (memories : ℕ) where
   active-ok [] others ok more = All-cons (λ (slot : Slot). IsSlotOk memories slot) EmptySlot (others []) tt (more [] ok)
   active-ok (segment ∷ chosen) others ok more =
       let P : ChosenSegment → Type 0 = λ segment. IsChosenOk memories segment in
-      All-cons (λ (slot : Slot). IsSlotOk memories slot) (head_of segment) (others chosen) (All-head P segment chosen ok) (more chosen (All-tail P segment chosen ok))
+      All-cons (λ (slot : Slot). IsSlotOk memories slot) (head_slot segment) (others chosen) (All-head P segment chosen ok) (more chosen (All-tail P segment chosen ok))
 
   at-ok : (mode : DataMode) (bytes : List ℕ) (b : Bool) (chosen : List ChosenSegment) (others : List ChosenSegment → List Slot) → AllChosenOk chosen
       → ((left : List ChosenSegment) → AllChosenOk left → AllOk (others left)) → AllOk (slots_at mode bytes b chosen others)
@@ -51,7 +51,7 @@ module _ (memories : ℕ) where
   at-ok (ActiveData memory offset) bytes b chosen others ok more = active-ok chosen others ok more
 
   pub slots-ok : (marks : List Bool) (n : ℕ) (datas : List DataSegment) (chosen : List ChosenSegment) → AllChosenOk chosen → AllOk (slots_from marks n datas chosen)
-  slots-ok marks n [] chosen ok = All-map (λ (slot : Slot). IsSlotOk memories slot) head_of chosen ok
+  slots-ok marks n [] chosen ok = All-map (λ (slot : Slot). IsSlotOk memories slot) head_slot chosen ok
   slots-ok marks n (d ∷ datas) chosen ok =
       at-ok d.mode d.bytes (is_empty_at marks n) chosen (λ left. slots_from marks (n + 1) datas left) ok (λ left fine. slots-ok marks (n + 1) datas left fine)
 

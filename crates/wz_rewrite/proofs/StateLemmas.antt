@@ -11,7 +11,7 @@ use Rattle.wz_types.specs.Fits.{Fits}
 use Rattle.wz_module.specs.Globals.{GlobalDef}
 use Rattle.wz_store.specs.State.{Global, Memory, pages_of}
 use Rattle.wz_valid.specs.Profile.{pages_limit}
-use Rattle.wz_rewrite.specs.ValidOutput.{IsNotForeign, IsWithinMaximum, FitsGlobal, StateHasTypes}
+use Rattle.wz_rewrite.specs.ValidOutput.{IsNotForeign, AllowsPages, FitsGlobal, StateHasTypes}
 
 each-of : {X : Type 0} (P : X → Type 0) (xs : List X) → ((i : ℕ) (x : X) → slice_get xs i ≡ Some x → P x) → All P xs
 each-of P [] each = All-nil P
@@ -33,7 +33,7 @@ globals-zip functions types (d ∷ definitions) (g ∷ globals) same fits =
 
 sizes-zip : (types : List MemType) (memories : List Memory) → map (λ memory. memory.maximum) memories ≡ map (λ memory. memory.limits.max) types
     → All (λ memory. IfSome memory.maximum (λ max. pages_of memory ≤ max)) memories
-    → AllZip (λ memory pages. IsWithinMaximum memory pages) types (map pages_of memories)
+    → AllZip (λ memory pages. AllowsPages memory pages) types (map pages_of memories)
 sizes-zip [] [] same within = tt
 sizes-zip [] (memory ∷ memories) same within = absurd cc
 sizes-zip (type ∷ types) [] same within = absurd cc
@@ -54,7 +54,7 @@ state_has_types m r globals memories contents pages is =
     record {
       globals = subst (λ (vs : List Value). AllZip (λ g v. FitsGlobal m g v) m.globals vs) (sym contents) fits;
       own = subst (λ (vs : List Value). All IsNotForeign vs) (sym contents) own;
-      sizes = subst (λ (ps : List ℕ). AllZip (λ memory p. IsWithinMaximum memory p) m.memories ps) (sym pages) sizes;
+      sizes = subst (λ (ps : List ℕ). AllZip (λ memory p. AllowsPages memory p) m.memories ps) (sym pages) sizes;
       pages = pages;
       together = subst (λ (ps : List ℕ). sum ps ≤ pages_limit) (sym pages) few;
     }

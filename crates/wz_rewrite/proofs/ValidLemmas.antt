@@ -49,7 +49,7 @@ use Rattle.wz_exports.proofs.RisingLemmas.{has-rising}
 use Rattle.wz_rewrite.specs.OutputState.{HasRange, HasRanges, output_state}
 use Rattle.wz_rewrite.specs.Slots.{output_slots}
 use Rattle.wz_rewrite.specs.Dropped.{dropped_elements}
-use Rattle.wz_rewrite.specs.ValidOutput.{IsWithinMaximum, HasTypesOf, GivesNamesOnce, IsValidWith, OutputIsValid}
+use Rattle.wz_rewrite.specs.ValidOutput.{AllowsPages, HasTypesOf, GivesNamesOnce, IsValidWith, OutputIsValid}
 use Rattle.wz_rewrite.proofs.NumberLemmas.{Has, AreIn, has-first, has-second, refers, code-same, in-flat, in-filtered, all-from-has}
 use Rattle.wz_rewrite.proofs.ItemLemmas.{all-items, item-of, some-more, below-of-some, NamesDiffer, IsNewName, new-name, names-differ}
 use Rattle.wz_rewrite.proofs.ConstantLemmas.{begun-ok}
@@ -197,7 +197,7 @@ module _ (m : Module) (s : Settings) (k : KeptExports) (r : RecordedState) (memo
       let same = same-memories m r memories k types in
       let pages = ap (λ (ps : List ℕ). length ps) types.pages in
       let each = length-map memories pages_of in
-      let sizes = sizes-long (λ memory p. IsWithinMaximum memory p) m.memories r.pages types.sizes in
+      let sizes = sizes-long (λ memory p. AllowsPages memory p) m.memories r.pages types.sizes in
       omega (arith, before, same, pages, each, sizes)
 
   datas-ok : All (λ d. IsDataModeOk out d.mode) out.datas
@@ -214,7 +214,7 @@ module _ (m : Module) (s : Settings) (k : KeptExports) (r : RecordedState) (memo
 
   memory-ok : (i : ℕ) → i < length out.memories → IsItemOk out part.Memory i
   memory-ok i less =
-      let same = grown-count (λ memory p. IsWithinMaximum memory p) m.memories r.pages types.sizes in
+      let same = grown-count (λ memory p. AllowsPages memory p) m.memories r.pages types.sizes in
       some-more (slice_get out.memories i) IsMemoryOk (λ memory. IsMemoryOk memory × IsOnlyMemory out i)
       (λ memory here ok. (ok, only-memory i (omega (arith, less, same)))) (item-of IsMemoryOk out.memories i memories-ok less)
 
@@ -268,7 +268,7 @@ module _ (m : Module) (s : Settings) (k : KeptExports) (r : RecordedState) (memo
   same-pages : first_pages out ≡ sum r.pages
   same-pages =
       ap (λ (imported : List MemType). sum_by (λ memory. memory.limits.min) (imported ++ out.memories)) (no-imports m.imports profile.imports)
-      ∙ grown-sum (λ memory p. IsWithinMaximum memory p) m.memories r.pages types.sizes
+      ∙ grown-sum (λ memory p. AllowsPages memory p) m.memories r.pages types.sizes
 
   within : IsInProfile out
   within = record { imports = profile.imports; memories = (let few = types.together in omega (arith, same-pages, few)); tables = profile.tables; locals = profile.locals }

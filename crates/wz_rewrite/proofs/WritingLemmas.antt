@@ -14,7 +14,7 @@ use Rattle.wz_io.specs.declared.files.Failed.{Failed}
 use Rattle.wz_linear.specs.Bytes.{IsWithin}
 use Rattle.wz_store.specs.State.{Memory}
 use Rattle.wz_snapshot.specs.declared.segment.ChosenSegment.{ChosenSegment}
-use Rattle.wz_rewrite.specs.OutputState.{bytes_in, HasRange, HasRanges}
+use Rattle.wz_rewrite.specs.OutputState.{memory_part, HasRange, HasRanges}
 use Rattle.wz_rewrite.specs.Pieces.{OutputPiece, KeptPiece, MadePiece, RangePiece, piece_text, pieces_text, piece_length, pieces_length, chosen_with, range_of_piece, piece_ranges}
 use Rattle.wz_rewrite.specs.Gathering.{Gathers, FailsAmong}
 use Rattle.wz_rewrite.specs.Views.{piece_of}
@@ -34,7 +34,7 @@ pub within_range : (memories : List Memory) (number at len : ℕ) (contents : Li
 within_range memories number at len contents has is =
     within_memory (slice_get memories number) at len contents (All-head (λ s. HasRange memories s) (chosen_with number at len) [] has) is
 
-pub length_in : (memory : Option Memory) (at len : ℕ) → IsSomeAnd memory (λ m. IsWithin m.bytes at len) → length (bytes_in memory at len) ≡ len
+pub length_in : (memory : Option Memory) (at len : ℕ) → IsSomeAnd memory (λ m. IsWithin m.bytes at len) → length (memory_part memory at len) ≡ len
 length_in None at len has = absurd has
 length_in (Some m) at len has = length-part m.bytes at len has
 

@@ -47,8 +47,8 @@ abbrev pub OutputSpells : Type 0
 OutputSpells = (m : Module) (o : OutputState) → CanBeOutput m o → Spells (output_bytes m o) (output_module m o)
 
 -- the sections come in their order, each at most once
-abbrev pub AreInOrder : List Section → Type 0
-AreInOrder sections = Rises 0 (ranks_of sections)
+abbrev pub SectionsAreInOrder : List Section → Type 0
+SectionsAreInOrder sections = Rises 0 (ranks_of sections)
 
 -- the element section spells the module's element segments
 abbrev pub SpellsElements : Module → Type 0
@@ -60,7 +60,7 @@ InputSpellsElements = (input : List ℕ) (m : Module) → Spells input m → Spe
 
 -- and its sections are in order
 abbrev pub InputIsInOrder : Type 0
-InputIsInOrder = (input : List ℕ) (m : Module) → Spells input m → AreInOrder m.sections
+InputIsInOrder = (input : List ℕ) (m : Module) → Spells input m → SectionsAreInOrder m.sections
 
 -- the pieces, with each range read from its memory, are the output
 abbrev pub PiecesAreOutput : Type 0
@@ -68,7 +68,7 @@ PiecesAreOutput = (m : Module) (o : OutputState) → HasRanges o.memories o.chos
 
 -- their ranges are the chosen ones, in order
 abbrev pub PiecesAreChosen : Type 0
-PiecesAreChosen = (m : Module) (o : OutputState) → AreInOrder m.sections → HasCode m → piece_ranges (output_pieces m o) ≡ o.chosen
+PiecesAreChosen = (m : Module) (o : OutputState) → SectionsAreInOrder m.sections → HasCode m → piece_ranges (output_pieces m o) ≡ o.chosen
 
 -- and what they have of the input is just the contents that stay, in order
 abbrev pub PiecesAreKept : Type 0

@@ -45,13 +45,13 @@ reached_state m s k = output_state m (recorded s) s.memories k
 
 -- ---- ranges of memories
 
-abbrev pub bytes_in : Option Memory → ℕ → ℕ → List ℕ
-bytes_in None at len = []
-bytes_in (Some memory) at len = part memory.bytes at len
+abbrev pub memory_part : Option Memory → ℕ → ℕ → List ℕ
+memory_part None at len = []
+memory_part (Some memory) at len = part memory.bytes at len
 
 -- what stands in a range of the memory of this number
 abbrev pub range_bytes : List Memory → ℕ → ℕ → ℕ → List ℕ
-range_bytes memories number at len = bytes_in (slice_get memories number) at len
+range_bytes memories number at len = memory_part (slice_get memories number) at len
 
 -- the memory is there, and the range ends within it
 abbrev pub HasRange : List Memory → ChosenSegment → Type 0

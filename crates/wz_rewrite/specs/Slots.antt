@@ -14,13 +14,13 @@ abbrev pub passive_slot : List ℕ → Bool → Slot
 passive_slot bytes empty = if was_emptied bytes empty then EmptySlot else PassiveSlot bytes
 
 -- a chosen range as an active segment
-abbrev pub head_of : ChosenSegment → Slot
-head_of segment = HeadSlot segment.memory segment.at segment.len
+abbrev pub head_slot : ChosenSegment → Slot
+head_slot segment = HeadSlot segment.memory segment.at segment.len
 
 -- The place of an active segment takes the next chosen range, or nothing once these are used up. What follows gets the rest of them.
 abbrev pub active_slots : List ChosenSegment → (List ChosenSegment → List Slot) → List Slot
 active_slots [] others = EmptySlot ∷ others []
-active_slots (segment ∷ chosen) others = head_of segment ∷ others chosen
+active_slots (segment ∷ chosen) others = head_slot segment ∷ others chosen
 
 abbrev pub slots_at : DataMode → List ℕ → Bool → List ChosenSegment → (List ChosenSegment → List Slot) → List Slot
 slots_at PassiveData bytes empty chosen others = passive_slot bytes empty ∷ others chosen
@@ -28,7 +28,7 @@ slots_at (ActiveData memory offset) bytes empty chosen others = active_slots cho
 
 -- Each segment's place in its order, where the first has this number, and behind them the chosen ranges that are left.
 abbrev pub slots_from : List Bool → ℕ → List DataSegment → List ChosenSegment → List Slot
-slots_from marks number [] chosen = map head_of chosen
+slots_from marks number [] chosen = map head_slot chosen
 slots_from marks number (d ∷ datas) chosen = slots_at d.mode d.bytes (is_empty_at marks number) chosen (λ left. slots_from marks (number + 1) datas left)
 
 abbrev pub output_slots : Module → OutputState → List Slot

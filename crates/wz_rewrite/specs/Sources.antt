@@ -10,18 +10,18 @@ use Rattle.wz_rewrite.specs.Slots.{output_slots}
 use Rattle.wz_rewrite.specs.Sections.{lacks, elements_before}
 use Rattle.wz_rewrite.specs.declared.sources.Sources.{Sources}
 
-abbrev pub input_of : Sources → Module
-input_of s = module_of s.input.now
+abbrev pub source_module : Sources → Module
+source_module s = module_of s.input.now
 
 -- pieces don't depend on what the memories hold
-abbrev pub state_of : Sources → OutputState
-state_of s = output_state (input_of s) s.snapshot.now [] s.kept.now
+abbrev pub source_state : Sources → OutputState
+source_state s = output_state (source_module s) s.snapshot.now [] s.kept.now
 
 -- what was found out is so
 pub record AreFound (s : Sources) : Type 0 where
-  pub undeclared : s.undeclared.items ≡ undeclared_functions (input_of s) s.snapshot.now s.kept.now
-  pub dropped : s.dropped.items ≡ dropped_elements (input_of s) (state_of s)
-  pub slots : map slot_of s.slots.items ≡ output_slots (input_of s) (state_of s)
-  pub before : s.elements_before ≡ elements_before (input_of s).sections
-  pub lacks_elements : s.lacks_elements ≡ lacks 9 (input_of s).sections
-  pub lacks_datas : s.lacks_datas ≡ lacks 11 (input_of s).sections
+  pub undeclared : s.undeclared.items ≡ undeclared_functions (source_module s) s.snapshot.now s.kept.now
+  pub dropped : s.dropped.items ≡ dropped_elements (source_module s) (source_state s)
+  pub slots : map slot_of s.slots.items ≡ output_slots (source_module s) (source_state s)
+  pub before : s.elements_before ≡ elements_before (source_module s).sections
+  pub lacks_elements : s.lacks_elements ≡ lacks 9 (source_module s).sections
+  pub lacks_datas : s.lacks_datas ≡ lacks 11 (source_module s).sections

@@ -32,14 +32,14 @@ abbrev pub FitsGlobal : Module → GlobalDef → Value → Type 0
 FitsGlobal m global value = Fits value global.kind.value (length (all_functions m)) (length m.types)
 
 -- the pages are within the memory's maximum
-abbrev pub IsWithinMaximum : MemType → ℕ → Type 0
-IsWithinMaximum memory pages = IfSome memory.limits.max (λ max. pages ≤ max)
+abbrev pub AllowsPages : MemType → ℕ → Type 0
+AllowsPages memory pages = IfSome memory.limits.max (λ max. pages ≤ max)
 
 -- One value for each global and one size for each memory, which their types allow, and memories within the profile.
 pub record HasTypesOf (m : Module) (r : RecordedState) (memories : List Memory) : Type 0 where
   pub globals : AllZip (λ global value. FitsGlobal m global value) m.globals r.globals
   pub own : All IsNotForeign r.globals
-  pub sizes : AllZip (λ memory pages. IsWithinMaximum memory pages) m.memories r.pages
+  pub sizes : AllZip (λ memory pages. AllowsPages memory pages) m.memories r.pages
   pub pages : r.pages ≡ map pages_of memories
   pub together : sum r.pages ≤ pages_limit
 

@@ -9,7 +9,7 @@ ghost use Rattle.wz_encode.specs.Globals.{globals_text};
 ghost use Rattle.wz_encode.specs.Exports.{exports_text};
 ghost use Rattle.wz_rewrite.specs.Parts.{output_memories, global_types};
 ghost use Rattle.wz_rewrite.specs.Pieces.{OutputPiece, MadePiece, slot_pieces, slots_pieces, elements_pieces};
-ghost use Rattle.wz_rewrite.specs.Sources.{input_of, state_of, AreFound};
+ghost use Rattle.wz_rewrite.specs.Sources.{source_module, source_state, AreFound};
 
 use crate::made::{export_bytes, global_types, kept_as_is, made, number_bytes, sized_memories};
 use crate::piece::Piece;
@@ -23,7 +23,7 @@ pub(crate) fn memory_contents<'a>(
     alloc: Global,
     sources: &Sources<'_, 'a>,
 ) -> Result<Option<Pieces<'a>>, AllocError>
-    ensures { let m = input_of sources.now in let o = state_of sources.now in
+    ensures { let m = source_module sources.now in let o = source_state sources.now in
         IfOk result (λ c. c ≡ Some (MadePiece (memories_text (output_memories m o)) ∷ [])) }
 {
     let memories = sized_memories(alloc, sources.input.memories(), sources.snapshot.pages())?;
@@ -36,8 +36,8 @@ pub(crate) fn global_contents<'a>(
     alloc: Global,
     sources: &Sources<'_, 'a>,
 ) -> Result<Option<Pieces<'a>>, AllocError>
-    requires { length (input_of sources.now).globals ≡ length (state_of sources.now).globals }
-    ensures { let m = input_of sources.now in let o = state_of sources.now in
+    requires { length (source_module sources.now).globals ≡ length (source_state sources.now).globals }
+    ensures { let m = source_module sources.now in let o = source_state sources.now in
         IfOk result (λ c. c ≡ Some (MadePiece (globals_text (global_types m) o.globals) ∷ [])) }
 {
     let types = global_types(alloc, sources.input.globals())?;
@@ -50,7 +50,7 @@ pub(crate) fn export_contents<'a>(
     alloc: Global,
     sources: &Sources<'_, 'a>,
 ) -> Result<Option<Pieces<'a>>, AllocError>
-    ensures { let o = state_of sources.now in
+    ensures { let o = source_state sources.now in
         IfOk result (λ c. c ≡ Some (MadePiece (exports_text o.exports) ∷ [])) }
 {
     let bytes = export_bytes(alloc, sources.kept)?;

@@ -5,7 +5,7 @@ ghost use Rattle.wz_decode_sections.specs.ElementSection.{IsElementSection};
 ghost use Rattle.wz_encode.specs.Elements.{elements_text};
 ghost use Rattle.wz_rewrite.specs.Pieces.{MadePiece, keeps_elements, elements_pieces};
 ghost use Rattle.wz_rewrite.specs.Sections.{renewed_elements};
-ghost use Rattle.wz_rewrite.specs.Sources.{input_of, state_of, AreFound};
+ghost use Rattle.wz_rewrite.specs.Sources.{source_module, source_state, AreFound};
 
 use crate::made::{kept_as_is, made};
 use crate::pieces::Pieces;
@@ -17,7 +17,7 @@ use wz_encode::put_elements;
 /// Whether nothing was dropped and nothing must be declared anew.
 fn keeps_elements(sources: &Sources<'_, '_>) -> bool
     requires { AreFound sources.now }
-    ensures { result ≡ keeps_elements (input_of sources.now) (state_of sources.now) }
+    ensures { result ≡ keeps_elements (source_module sources.now) (source_state sources.now) }
 {
     sources.dropped.is_empty() && sources.undeclared.is_empty()
 }
@@ -29,9 +29,9 @@ fn changed_contents<'a>(
     payload: &[u8],
 ) -> Result<Option<Pieces<'a>>, AllocError>
     requires found { AreFound sources.now }
-    requires spelled { IsElementSection payload.now (input_of sources.now).elements }
+    requires spelled { IsElementSection payload.now (source_module sources.now).elements }
     requires short { length payload.now < 2 ^ 32 - 1 }
-    ensures { let m = input_of sources.now in let o = state_of sources.now in
+    ensures { let m = source_module sources.now in let o = source_state sources.now in
         IfOk result (λ c. c ≡ Some (MadePiece (renewed_elements m o payload.now) ∷ [])) }
 {
     // `Bad` doesn't come: the payload spells the segments
@@ -58,9 +58,9 @@ pub(crate) fn element_contents<'a>(
     payload: &'a [u8],
 ) -> Result<Option<Pieces<'a>>, AllocError>
     requires found { AreFound sources.now }
-    requires spelled { IsElementSection payload.now (input_of sources.now).elements }
+    requires spelled { IsElementSection payload.now (source_module sources.now).elements }
     requires short { length payload.now < 2 ^ 32 - 1 }
-    ensures { let m = input_of sources.now in let o = state_of sources.now in
+    ensures { let m = source_module sources.now in let o = source_state sources.now in
         IfOk result (λ c. c ≡ Some (elements_pieces m o payload.now)) }
 {
     if keeps_elements(sources) {

@@ -6,7 +6,7 @@ ghost use Rattle.wz_decode_sections.specs.ElementSection.{IsElementSection};
 ghost use Rattle.wz_rewrite.specs.Sections.{brings_elements, brings_datas};
 ghost use Rattle.wz_rewrite.specs.Pieces.{contents_pieces, new_elements_pieces, new_datas_pieces};
 ghost use Rattle.wz_rewrite.specs.Pieces.{section_pieces, pieces_for};
-ghost use Rattle.wz_rewrite.specs.Sources.{input_of, state_of, AreFound};
+ghost use Rattle.wz_rewrite.specs.Sources.{source_module, source_state, AreFound};
 
 use crate::contents::{data_contents, export_contents, global_contents, memory_contents};
 use crate::elements::{element_contents, new_element_contents};
@@ -23,7 +23,7 @@ fn count_contents<'a>(
     sources: &Sources<'_, 'a>,
 ) -> Result<Option<Pieces<'a>>, AllocError>
     requires { AreFound sources.now }
-    ensures { let m = input_of sources.now in let o = state_of sources.now in
+    ensures { let m = source_module sources.now in let o = source_state sources.now in
         IfOk result (λ c. c ≡ contents_pieces m o 12 []) }
 {
     let bytes = number_bytes(alloc, sources.slots.len() as u64)?;
@@ -37,12 +37,12 @@ fn contents<'a>(
     section: Section<'a>,
 ) -> Result<Option<Pieces<'a>>, AllocError>
     requires found { AreFound sources.now }
-    requires globals { length (input_of sources.now).globals ≡
-        length (state_of sources.now).globals }
+    requires globals { length (source_module sources.now).globals ≡
+        length (source_state sources.now).globals }
     requires elements { section.id ≡ 9 →
-        IsElementSection section.payload.now (input_of sources.now).elements }
+        IsElementSection section.payload.now (source_module sources.now).elements }
     requires short { length section.payload.now < 2 ^ 32 - 1 }
-    ensures { let m = input_of sources.now in let o = state_of sources.now in
+    ensures { let m = source_module sources.now in let o = source_state sources.now in
         IfOk result (λ c. c ≡ contents_pieces m o section.entry.id section.entry.payload.now) }
 {
     match section.id {
@@ -64,7 +64,7 @@ fn new_elements<'a>(
     id: u8,
 ) -> Result<Option<Pieces<'a>>, AllocError>
     requires { AreFound sources.now }
-    ensures { let m = input_of sources.now in let o = state_of sources.now in
+    ensures { let m = source_module sources.now in let o = source_state sources.now in
         IfOk result (λ c. c ≡ new_elements_pieces m o id) }
 {
     let brings = id == sources.elements_before
@@ -83,7 +83,7 @@ fn new_datas<'a>(
     id: u8,
 ) -> Result<Option<Pieces<'a>>, AllocError>
     requires { AreFound sources.now }
-    ensures { let m = input_of sources.now in let o = state_of sources.now in
+    ensures { let m = source_module sources.now in let o = source_state sources.now in
         IfOk result (λ c. c ≡ new_datas_pieces m o id) }
 {
     let chosen = sources.snapshot.segments();
@@ -120,12 +120,12 @@ pub(crate) fn add_place<'a>(
     section: Section<'a>,
 ) -> Result<(), AllocError>
     requires found { AreFound sources.now }
-    requires globals { length (input_of sources.now).globals ≡
-        length (state_of sources.now).globals }
+    requires globals { length (source_module sources.now).globals ≡
+        length (source_state sources.now).globals }
     requires elements { section.id ≡ 9 →
-        IsElementSection section.payload.now (input_of sources.now).elements }
+        IsElementSection section.payload.now (source_module sources.now).elements }
     requires short { length section.payload.now < 2 ^ 32 - 1 }
-    ensures { let m = input_of sources.now in let o = state_of sources.now in
+    ensures { let m = source_module sources.now in let o = source_state sources.now in
         OnOk result (out.new ≡ out.old ++ pieces_for m o (section_of section.entry)) }
 {
     let elements = new_elements(alloc, sources, section.id)?;

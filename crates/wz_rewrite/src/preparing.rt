@@ -8,8 +8,8 @@ ghost use Rattle.wz_module.specs.Views.{section_of};
 ghost use Rattle.wz_rewrite.specs.OutputState.{output_state, HasRanges};
 ghost use Rattle.wz_rewrite.specs.Output.{output_bytes};
 ghost use Rattle.wz_rewrite.specs.Pieces.{pieces_text, piece_ranges, piece_payloads, kept_payloads, output_pieces};
-ghost use Rattle.wz_rewrite.specs.Laws.{AreInOrder, HasCode, SpellsElements};
-ghost use Rattle.wz_rewrite.specs.Sources.{input_of, state_of, AreFound};
+ghost use Rattle.wz_rewrite.specs.Laws.{SectionsAreInOrder, HasCode, SpellsElements};
+ghost use Rattle.wz_rewrite.specs.Sources.{source_module, source_state, AreFound};
 
 use crate::output::Output;
 use crate::piece::Piece;
@@ -27,10 +27,10 @@ const HEADER: [u8; 8] = [0x00, 0x61, 0x73, 0x6D, 0x01, 0x00, 0x00, 0x00];
 /// The pieces of the output: the header, and what stands in the place of each section.
 fn all_pieces<'a>(alloc: Global, sources: &Sources<'_, 'a>) -> Result<Pieces<'a>, AllocError>
     requires found { AreFound sources.now }
-    requires globals { length (input_of sources.now).globals ≡
-        length (state_of sources.now).globals }
-    requires elements { SpellsElements (input_of sources.now) }
-    ensures { let m = input_of sources.now in let o = state_of sources.now in
+    requires globals { length (source_module sources.now).globals ≡
+        length (source_state sources.now).globals }
+    requires elements { SpellsElements (source_module sources.now) }
+    ensures { let m = source_module sources.now in let o = source_state sources.now in
         IfOk result (λ pieces. pieces ≡ output_pieces m o) }
 {
     let mut pieces = Pieces::new(alloc);
@@ -60,7 +60,7 @@ pub fn prepare<'a>(
     ensures bytes { let m = module_of «module».now in let r = snapshot.now in
         IfOk result (λ pieces. (memories : List Memory) → HasRanges memories r.segments
         → pieces_text memories pieces ≡ output_bytes m (output_state m r memories kept.now)) }
-    ensures ranges { AreInOrder (module_of «module».now).sections
+    ensures ranges { SectionsAreInOrder (module_of «module».now).sections
         → IfOk result (λ pieces. piece_ranges pieces ≡ snapshot.now.segments) }
     ensures kept { let m = module_of «module».now in
         let o = output_state m snapshot.now [] kept.now in

@@ -5,7 +5,7 @@ ghost use Rattle.wz_module.specs.Views.{data_of};
 ghost use Rattle.wz_encode.specs.Views.{slot_of};
 ghost use Rattle.wz_encode.specs.Datas.{Slot};
 ghost use Rattle.wz_snapshot.specs.declared.segment.ChosenSegment.{ChosenSegment as Segment};
-ghost use Rattle.wz_rewrite.specs.Slots.{passive_slot, head_of, slots_at, slots_from};
+ghost use Rattle.wz_rewrite.specs.Slots.{passive_slot, head_slot, slots_at, slots_from};
 
 use crate::dropped::is_empty_at;
 use std::alloc::{AllocError, Global};
@@ -25,8 +25,8 @@ fn passive_slot(bytes: &[u8], empty: bool) -> DataSlot<'_>
 }
 
 /// A chosen range as an active segment.
-fn head_of(segment: ChosenSegment) -> DataSlot<'static>
-    ensures { slot_of result ≡ head_of segment }
+fn head_slot(segment: ChosenSegment) -> DataSlot<'static>
+    ensures { slot_of result ≡ head_slot segment }
 {
     DataSlot::Head {
         memory: segment.memory,
@@ -48,7 +48,7 @@ fn next_slot<'a, 'c>(
         DataMode::Passive => (passive_slot(segment.bytes, empty), chosen),
         DataMode::Active { .. } => match chosen {
             [] => (DataSlot::Nothing, chosen),
-            [first, left @ ..] => (head_of(*first), left),
+            [first, left @ ..] => (head_slot(*first), left),
         },
     }
 }
@@ -56,10 +56,10 @@ fn next_slot<'a, 'c>(
 /// Adds the chosen ranges that are left.
 fn add_heads(slots: &mut Vec<DataSlot<'_>>, chosen: &[ChosenSegment]) -> Result<(), AllocError>
     ensures { OnOk result (map slot_of slots.new.items ≡
-        map slot_of slots.old.items ++ map head_of chosen.now) }
+        map slot_of slots.old.items ++ map head_slot chosen.now) }
 {
     for segment in chosen {
-        slots.push(head_of(*segment))?;
+        slots.push(head_slot(*segment))?;
     }
     Ok(())
 }

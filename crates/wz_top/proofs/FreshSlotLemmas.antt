@@ -19,9 +19,9 @@ use Rattle.wz_encode.specs.Datas.{Slot, PassiveSlot, EmptySlot, HeadSlot, segmen
 use Rattle.wz_snapshot.specs.declared.segment.ChosenSegment.{ChosenSegment}
 use Rattle.wz_snapshot.specs.Recorded.{has_no_items}
 use Rattle.wz_snapshot.specs.Laws.{IsRangeOf}
-use Rattle.wz_rewrite.specs.OutputState.{bytes_in, range_bytes}
+use Rattle.wz_rewrite.specs.OutputState.{memory_part, range_bytes}
 use Rattle.wz_rewrite.specs.Dropped.{was_emptied, is_empty_at}
-use Rattle.wz_rewrite.specs.Slots.{passive_slot, head_of, active_slots, slots_at, slots_from, with_behind}
+use Rattle.wz_rewrite.specs.Slots.{passive_slot, head_slot, active_slots, slots_at, slots_from, with_behind}
 use Rattle.wz_init.specs.Constants.{constant_number, constant_value}
 use Rattle.wz_init.specs.Instances.{Instance, DataUnfit, Fresh, instance_then}
 use Rattle.wz_init.specs.Instantiation.{copied, data_copied, data_run, datas_run}
@@ -38,7 +38,7 @@ heads (PassiveSlot bytes ∷ slots) = heads slots
 heads (EmptySlot ∷ slots) = heads slots
 heads (HeadSlot memory at len ∷ slots) = record { memory = memory; at = at; len = len } ∷ heads slots
 
-heads_only : (chosen : List ChosenSegment) → heads (map head_of chosen) ≡ chosen
+heads_only : (chosen : List ChosenSegment) → heads (map head_slot chosen) ≡ chosen
 heads_only [] = refl
 heads_only (segment ∷ chosen) = ap (λ (cs : List ChosenSegment). segment ∷ cs) (heads_only chosen)
 
@@ -133,7 +133,7 @@ module _ (m : Module) (targets : List Memory) (b : State) where
   head index number at len slots ms done (Some target) is long range near rest = by (near.each number target is)
     where
       bytes_are : range_bytes targets number at len ≡ part target.bytes at len
-      bytes_are = ap (λ (o : Option Memory). bytes_in o at len) is
+      bytes_are = ap (λ (o : Option Memory). memory_part o at len) is
 
       by : (memory : Memory) × (slice_get ms number ≡ Some memory) × IsNear (record { memory = number; at = at; len = len } ∷ heads slots) number memory target
           → Ran index (HeadSlot number at len ∷ slots) ms done
@@ -199,9 +199,9 @@ behind_first slot slots now nows e h = record {
   empty = h.empty;
 }
 
-only_empty : (chosen : List ChosenSegment) → All (λ bytes. bytes ≡ []) (map slot_left (map head_of chosen))
+only_empty : (chosen : List ChosenSegment) → All (λ bytes. bytes ≡ []) (map slot_left (map head_slot chosen))
 only_empty [] = All-nil (λ (bytes : List ℕ). bytes ≡ [])
-only_empty (segment ∷ chosen) = All-cons (λ (bytes : List ℕ). bytes ≡ []) [] (map slot_left (map head_of chosen)) refl (only_empty chosen)
+only_empty (segment ∷ chosen) = All-cons (λ (bytes : List ℕ). bytes ≡ []) [] (map slot_left (map head_slot chosen)) refl (only_empty chosen)
 
 emptied : (now : List ℕ) → (Some [] ≡ Some now) ⊎ (now ≡ []) → [] ≡ now
 emptied now (inl same) = cc same
@@ -210,7 +210,7 @@ emptied now (inr none) = sym none
 active_begins : (chosen : List ChosenSegment) (others : List ChosenSegment → List Slot) (now : List ℕ) (nows : List (List ℕ)) → [] ≡ now
     → ((left : List ChosenSegment) → BeginsWith (others left) nows) → BeginsWith (active_slots chosen others) (now ∷ nows)
 active_begins [] others now nows e h = behind_first EmptySlot (others []) now nows e (h [])
-active_begins (segment ∷ chosen) others now nows e h = behind_first (head_of segment) (others chosen) now nows e (h chosen)
+active_begins (segment ∷ chosen) others now nows e h = behind_first (head_slot segment) (others chosen) now nows e (h chosen)
 
 slot_begins : (mode : DataMode) (bytes : List ℕ) (mark : Bool) (chosen : List ChosenSegment) (others : List ChosenSegment → List Slot) (now : List ℕ) (nows : List (List ℕ))
     → mark ≡ has_no_items now → (Some (bytes_left mode bytes) ≡ Some now) ⊎ (now ≡ []) → ((left : List ChosenSegment) → BeginsWith (others left) nows)
@@ -223,7 +223,7 @@ pub begins : (marks : List Bool) (n : ℕ) (datas : List DataSegment) (chosen : 
     → ((i : ℕ) (now : List ℕ) → slice_get nows i ≡ Some now → is_empty_at marks (n + i) ≡ has_no_items now)
     → ((i : ℕ) (now : List ℕ) → slice_get nows i ≡ Some now → (slice_get (all_left datas) i ≡ Some now) ⊎ (now ≡ []))
     → BeginsWith (slots_from marks n datas chosen) nows
-begins marks n [] chosen [] many marked h = record { more = map slot_left (map head_of chosen); is = refl; empty = only_empty chosen }
+begins marks n [] chosen [] many marked h = record { more = map slot_left (map head_slot chosen); is = refl; empty = only_empty chosen }
 begins marks n [] chosen (now ∷ nows) many marked h = absurd (omega (arith, many))
 begins marks n (d ∷ datas) chosen [] many marked h = absurd (omega (arith, many))
 begins marks n (d ∷ datas) chosen (now ∷ nows) many marked h =

@@ -42,7 +42,7 @@ use Rattle.wz_init.specs.Run.{RunEnd, Returned, Stopped, run_standing, run}
 use Rattle.wz_init.specs.Ready.{Ready, Reached, phases, phase_end, phases_run, ready_from, ready}
 use Rattle.wz_init.specs.Laws.{FreshIsReached, RunIsReached}
 use Rattle.wz_rewrite.specs.OutputState.{HasRange, HasRanges}
-use Rattle.wz_rewrite.specs.Laws.{HasCode, SpellsElements, AreInOrder, InputSpellsElements, InputIsInOrder}
+use Rattle.wz_rewrite.specs.Laws.{HasCode, SpellsElements, SectionsAreInOrder, InputSpellsElements, InputIsInOrder}
 use Rattle.wz_top.specs.Making.{IsRun}
 use Rattle.wz_top.proofs.OutsideLaws.{value_in}
 
@@ -167,7 +167,7 @@ pub record CanWrite (m : Module) (store : StoreState) : Type 0 where
   pub globals : length m.globals ≡ length (recorded store).globals
   pub code : HasCode m
   pub elements : SpellsElements m
-  pub order : AreInOrder m.sections
+  pub order : SectionsAreInOrder m.sections
   pub ranges : HasRanges store.memories (chosen_segments store.memories)
   pub segments : length (chosen_segments store.memories) ≤ 10000
 

@@ -8,7 +8,7 @@ use Rattle.std.proofs.lemmas.Grind.{flat_map-append}
 use Rattle.wz_io.specs.World.{Said, Rose}
 use Rattle.wz_io.specs.Calls.{Puts}
 use Rattle.wz_top.specs.declared.pieces.Piece.{Piece}
-use Rattle.wz_top.specs.Pieces.{piece_text, pieces_text}
+use Rattle.wz_top.specs.Pieces.{piece_words, words_of_pieces}
 use Rattle.wz_top.specs.Saying.{SaysAll, SaysFirst}
 
 pub append_twice : (x : Option (List ℕ)) (a b : List ℕ) → append_known (append_known x a) b ≡ append_known x (a ++ b)
@@ -84,16 +84,16 @@ puts_more bytes at n before now next piece come is done =
 -- ---- a loop over pieces
 
 pub pieces_split : (pieces : List Piece) (at : ℕ) (other : Piece) → at < length pieces
-    → pieces_text pieces ≡ pieces_text (take at pieces) ++ (piece_text (get_or pieces at other) ++ pieces_text (drop (suc at) pieces))
+    → words_of_pieces pieces ≡ words_of_pieces (take at pieces) ++ (piece_words (get_or pieces at other) ++ words_of_pieces (drop (suc at) pieces))
 pieces_split pieces at other there =
-    ap pieces_text (sym (take-append-drop at pieces)) ∙ flat_map-append piece_text (take at pieces) (drop at pieces)
-    ∙ ap (λ (ps : List Piece). pieces_text (take at pieces) ++ pieces_text ps) (drop-cons pieces at other there)
+    ap words_of_pieces (sym (take-append-drop at pieces)) ∙ flat_map-append piece_words (take at pieces) (drop at pieces)
+    ∙ ap (λ (ps : List Piece). words_of_pieces (take at pieces) ++ words_of_pieces ps) (drop-cons pieces at other there)
 
 -- the pieces before it were put, and the sink failed at this one
 pub says_pieces : (pieces : List Piece) (at : ℕ) (other : Piece) (before mid now : Said) → at < length pieces
-    → SaysAll (pieces_text (take at pieces)) before mid → SaysFirst (piece_text (get_or pieces at other)) mid now → SaysFirst (pieces_text pieces) before now
+    → SaysAll (words_of_pieces (take at pieces)) before mid → SaysFirst (piece_words (get_or pieces at other)) mid now → SaysFirst (words_of_pieces pieces) before now
 says_pieces pieces at other before mid now there one other_said =
-    let this = piece_text (get_or pieces at other) in
-    let rest = pieces_text (drop (suc at) pieces) in
+    let this = piece_words (get_or pieces at other) in
+    let rest = words_of_pieces (drop (suc at) pieces) in
     subst (λ (bytes : List ℕ). SaysFirst bytes before now) (sym (pieces_split pieces at other there))
-    (says_front (pieces_text (take at pieces)) (this ++ rest) before mid now one (says_less this rest mid now other_said))
+    (says_front (words_of_pieces (take at pieces)) (this ++ rest) before mid now one (says_less this rest mid now other_said))

@@ -11,7 +11,7 @@ use Rattle.wz_decode.specs.Spelling.{Spells}
 use Rattle.wz_valid.specs.declared.faults.ValidFault.{ValidFault}
 use Rattle.wz_valid.specs.declared.faults.ValidFault.TheVariants as valid
 use Rattle.wz_valid.specs.declared.faults.OutOfProfile.{OutOfProfile}
-use Rattle.wz_valid.specs.Validity.{IsValid, IsRefused}
+use Rattle.wz_valid.specs.Validity.{IsValid, IsModuleRefused}
 use Rattle.wz_valid.specs.Profile.{IsOutside}
 use Rattle.wz_words.specs.Settings.{Settings}
 use Rattle.wz_exports.specs.Kept.{KeptExports, kept}
@@ -44,7 +44,7 @@ decode_refused s bytes (decode.BadSection at) header section counts = inl (decod
 decode_refused s bytes decode.BadCounts header section counts = inl (decode.BadCounts, counts refl, refl)
 decode_refused s bytes decode.NoMemory header section counts = tt
 
-pub valid_refused : (s : Settings) (bytes : List ℕ) (m : Module) (fault : ValidFault) → Spells bytes m → IsRefused m fault → IsRefusedBy s bytes (valid_outcome fault)
+pub valid_refused : (s : Settings) (bytes : List ℕ) (m : Module) (fault : ValidFault) → Spells bytes m → IsModuleRefused m fault → IsRefusedBy s bytes (valid_outcome fault)
 unfolding IsVerdict
 valid_refused s bytes m (valid.Invalid part index) spelled is = inr (m, spelled, inl (part, index, is, refl))
 valid_refused s bytes m valid.NoMemory spelled is = tt

@@ -5,11 +5,11 @@ use Rattle.wz_top.specs.declared.pieces.Piece.{Piece}
 use Rattle.wz_top.specs.declared.pieces.Piece.TheVariants.{Words, Number, Name, Byte}
 use Rattle.wz_top.specs.Texts.{quoted, hex_byte}
 
-abbrev pub piece_text : Piece → List ℕ
-piece_text (Words text) = text.now
-piece_text (Number number) = decimal number
-piece_text (Name name) = quoted name.now
-piece_text (Byte byte) = hex_byte byte
+abbrev pub piece_words : Piece → List ℕ
+piece_words (Words text) = text.now
+piece_words (Number number) = decimal number
+piece_words (Name name) = quoted name.now
+piece_words (Byte byte) = hex_byte byte
 
-abbrev pub pieces_text : List Piece → List ℕ
-pieces_text pieces = flat_map piece_text pieces
+abbrev pub words_of_pieces : List Piece → List ℕ
+words_of_pieces pieces = flat_map piece_words pieces

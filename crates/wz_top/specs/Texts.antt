@@ -25,9 +25,9 @@ use Rattle.wz_top.specs.declared.outcome.Outcome.{Outcome}
 use Rattle.wz_top.specs.declared.outcome.Outcome.TheVariants.{Done, Usage as BadWords, InputFault, InputTooLong, Decode, Valid, Profile, Exports, Init, OutputFault, NoMemory}
 
 -- texts one behind the other
-abbrev pub joined : List (List ℕ) → List ℕ
-joined [] = []
-joined (text ∷ texts) = text ++ joined texts
+abbrev pub words_joined : List (List ℕ) → List ℕ
+words_joined [] = []
+words_joined (text ∷ texts) = text ++ words_joined texts
 
 -- a name between double quotes, its bytes as they are
 abbrev pub quoted : List ℕ → List ℕ
@@ -35,11 +35,11 @@ quoted name = 34 ∷ (name ++ 34 ∷ [])
 
 -- words with a number between them
 abbrev pub numbered : List ℕ → ℕ → List ℕ → List ℕ
-numbered before number after = joined (before ∷ decimal number ∷ after ∷ [])
+numbered before number after = words_joined (before ∷ decimal number ∷ after ∷ [])
 
 -- words with a name between them
-abbrev pub named : List ℕ → List ℕ → List ℕ → List ℕ
-named before name after = joined (before ∷ quoted name ∷ after ∷ [])
+abbrev pub with_name : List ℕ → List ℕ → List ℕ → List ℕ
+with_name before name after = words_joined (before ∷ quoted name ∷ after ∷ [])
 
 abbrev pub no_memory_words : List ℕ
 no_memory_words = codes "out of memory"
@@ -47,7 +47,7 @@ no_memory_words = codes "out of memory"
 -- ---- the words of each outcome
 
 abbrev pub report_words : Report → List ℕ
-report_words report = joined (
+report_words report = words_joined (
     decimal report.ticks ∷ codes " ticks, " ∷ decimal report.pages ∷ codes " pages, "
     ∷ decimal report.segments ∷ codes " segments, " ∷ decimal report.bytes ∷ codes " bytes" ∷ [])
 
@@ -82,18 +82,18 @@ part_word part.Code = codes "code"
 part_word part.DataSegment = codes "data"
 
 abbrev pub invalid_words : Part → ℕ → List ℕ
-invalid_words part index = joined (codes "invalid: " ∷ part_word part ∷ codes " " ∷ decimal index ∷ [])
+invalid_words part index = words_joined (codes "invalid: " ∷ part_word part ∷ codes " " ∷ decimal index ∷ [])
 
 abbrev pub valid_words : ValidFault → List ℕ
 valid_words (valid.Invalid part index) = invalid_words part index
 valid_words valid.NoMemory = no_memory_words
 
 abbrev pub large_table_words : ℕ → ℕ → List ℕ
-large_table_words index entries = joined (
+large_table_words index entries = words_joined (
     codes "the tables up to " ∷ decimal index ∷ codes " start with " ∷ decimal entries ∷ codes " entries, more than 10000000" ∷ [])
 
 abbrev pub many_locals_words : ℕ → ℕ → List ℕ
-many_locals_words function count = joined (
+many_locals_words function count = words_joined (
     codes "function " ∷ decimal function ∷ codes " has " ∷ decimal count ∷ codes " locals, more than 50000" ∷ [])
 
 abbrev pub profile_words : OutOfProfile → List ℕ
@@ -103,12 +103,12 @@ profile_words (profile.TableTooLarge index entries) = large_table_words index en
 profile_words (profile.TooManyLocals function count) = many_locals_words function count
 
 abbrev pub export_words : ExportFault → List ℕ
-export_words (export.NoInit name) = named (codes "there is no export ") name []
-export_words (export.InitNotFunction name) = named (codes "the export ") name (codes " is no function")
-export_words (export.InitType name) = named (codes "the function ") name (codes " has parameters or results")
-export_words (export.RenameMissing name) = named (codes "there is no export ") name (codes " to rename")
-export_words (export.RenameNotFunction name) = named (codes "the export ") name (codes " to rename is no function")
-export_words (export.RenameInit name) = named (codes "the export ") name (codes " leaves and can't be renamed")
+export_words (export.NoInit name) = with_name (codes "there is no export ") name []
+export_words (export.InitNotFunction name) = with_name (codes "the export ") name (codes " is no function")
+export_words (export.InitType name) = with_name (codes "the function ") name (codes " has parameters or results")
+export_words (export.RenameMissing name) = with_name (codes "there is no export ") name (codes " to rename")
+export_words (export.RenameNotFunction name) = with_name (codes "the export ") name (codes " to rename is no function")
+export_words (export.RenameInit name) = with_name (codes "the export ") name (codes " leaves and can't be renamed")
 export_words export.NoMemory = no_memory_words
 
 abbrev pub phase_word : Phase → List ℕ
@@ -138,10 +138,10 @@ hex_byte byte = hex_digit (byte / 16) ∷ hex_digit (byte % 16) ∷ []
 -- the byte of an operation, and the number behind it where there is one
 abbrev pub opcode_words : ℕ × Option ℕ → List ℕ
 opcode_words (byte, None) = hex_byte byte
-opcode_words (byte, Some number) = joined (hex_byte byte ∷ codes " " ∷ decimal number ∷ [])
+opcode_words (byte, Some number) = words_joined (hex_byte byte ∷ codes " " ∷ decimal number ∷ [])
 
 abbrev pub trapped_words : Phase → TrapKind → List ℕ
-trapped_words phase kind = joined (phase_word phase ∷ codes " trapped: " ∷ trap_words kind ∷ [])
+trapped_words phase kind = words_joined (phase_word phase ∷ codes " trapped: " ∷ trap_words kind ∷ [])
 
 abbrev pub float_words : NumOp → List ℕ
 float_words op = codes "the initialisation uses the float operation " ++ opcode_words (opcode_of op)

@@ -3,7 +3,7 @@
 ghost use Rattle.std.specs.Prelude.{◌≡◌, ◌<◌, OnOk, OnErr};
 ghost use Rattle.wz_io.specs.World.{Said};
 ghost use Rattle.wz_top.specs.Saying.{SaysAll, SaysFirst};
-ghost use Rattle.wz_top.specs.Pieces.{piece_text, pieces_text};
+ghost use Rattle.wz_top.specs.Pieces.{piece_words, words_of_pieces};
 ghost use Rattle.std.specs.Prelude.{decimal};
 ghost use Rattle.wz_top.specs.Texts.{quoted, hex_digit};
 
@@ -76,9 +76,9 @@ fn hex_digit(digit: u8) -> u8
 
 fn put_piece<E: Sink>(piece: Piece<'_>, messages: &mut E) -> Result<(), Failed>
     ensures all { OnOk result
-        (SaysAll (piece_text piece.entry) (E.said messages.old) (E.said messages.new)) }
+        (SaysAll (piece_words piece.entry) (E.said messages.old) (E.said messages.new)) }
     ensures some { OnErr result
-        (SaysFirst (piece_text piece.entry) (E.said messages.old) (E.said messages.new)) }
+        (SaysFirst (piece_words piece.entry) (E.said messages.old) (E.said messages.new)) }
 {
     match piece {
         Piece::Words(words) => put_words(words, messages),
@@ -91,9 +91,9 @@ fn put_piece<E: Sink>(piece: Piece<'_>, messages: &mut E) -> Result<(), Failed>
 /// Puts the pieces one behind the other.
 pub fn put_pieces<E: Sink>(pieces: &[Piece<'_>], messages: &mut E) -> Result<(), Failed>
     ensures all { OnOk result
-        (SaysAll (pieces_text pieces.now) (E.said messages.old) (E.said messages.new)) }
+        (SaysAll (words_of_pieces pieces.now) (E.said messages.old) (E.said messages.new)) }
     ensures some { OnErr result
-        (SaysFirst (pieces_text pieces.now) (E.said messages.old) (E.said messages.new)) }
+        (SaysFirst (words_of_pieces pieces.now) (E.said messages.old) (E.said messages.new)) }
 {
     for piece in pieces {
         put_piece(*piece, messages)?;

@@ -4,7 +4,7 @@ ghost use Rattle.std.specs.Prelude.{◌≡◌, OnOk, OnErr};
 ghost use Rattle.std.specs.Bool.{OnTrue, OnFalse};
 ghost use Rattle.wz_io.specs.World.{Said};
 ghost use Rattle.wz_top.specs.Saying.{SaysAll, SaysFirst};
-ghost use Rattle.wz_top.specs.Texts.{numbered, named, report_words, usage_words};
+ghost use Rattle.wz_top.specs.Texts.{numbered, with_name, report_words, usage_words};
 ghost use Rattle.wz_top.specs.Texts.{decode_words, part_word, invalid_words};
 ghost use Rattle.wz_top.specs.Texts.{large_table_words, many_locals_words};
 ghost use Rattle.wz_top.specs.Texts.{valid_words, profile_words, export_words, outcome_words};
@@ -70,9 +70,9 @@ fn put_named<'t, E: Sink>(
     after: &'t str,
     messages: &mut E,
 ) -> Result<(), Failed>
-    ensures all { OnOk result (SaysAll (named before.now name.now after.now)
+    ensures all { OnOk result (SaysAll (with_name before.now name.now after.now)
         (E.said messages.old) (E.said messages.new)) }
-    ensures some { OnErr result (SaysFirst (named before.now name.now after.now)
+    ensures some { OnErr result (SaysFirst (with_name before.now name.now after.now)
         (E.said messages.old) (E.said messages.new)) }
 {
     let pieces = [

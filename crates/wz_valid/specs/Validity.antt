@@ -68,6 +68,6 @@ pub record IsFirstInvalid (m : Module) (part : Part) (index : ℕ) : Type 0 wher
   pub before : (one : Part) (other : ℕ) → other < part_length m one → StandsBefore one other part index → IsItemOk m one other
 
 -- Why a module isn't accepted: its first item that isn't ok. Want of memory has no cause in the module.
-abbrev pub IsRefused : Module → ValidFault → Type 0
-IsRefused m (Invalid part index) = IsFirstInvalid m part index
-IsRefused m NoMemory = Unit {0}
+abbrev pub IsModuleRefused : Module → ValidFault → Type 0
+IsModuleRefused m (Invalid part index) = IsFirstInvalid m part index
+IsModuleRefused m NoMemory = Unit {0}

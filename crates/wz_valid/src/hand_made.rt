@@ -310,7 +310,7 @@ fn no_parts(alloc: Global) -> ModuleParts<'static> {
 }
 
 /// The module that these items make, if it is short.
-pub fn module_of(
+pub(crate) fn module_of(
     alloc: Global,
     first: &[Item],
     more: &[Item],

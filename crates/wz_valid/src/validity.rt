@@ -3,7 +3,7 @@
 ghost use Rattle.std.specs.Prelude.{◌≡◌, length, OnOk, IfOk, IfErr};
 ghost use Rattle.wz_module.specs.Meaning.{module_of};
 ghost use Rattle.wz_valid.specs.Indices.{all_memories};
-ghost use Rattle.wz_valid.specs.Validity.{IsValid, IsPartOk, IsRefused, part_length, part_rank};
+ghost use Rattle.wz_valid.specs.Validity.{IsValid, IsPartOk, IsModuleRefused, part_length, part_rank};
 ghost use Rattle.wz_valid.specs.Checking.{IsContextOf, AreNamesNew, TellsItem};
 ghost use Rattle.wz_valid.specs.Checking.{AreItemsBeforeOk, ArePartsBeforeOk};
 
@@ -84,7 +84,7 @@ fn check_part(checker: &Checker<'_, '_>, part: Part) -> Result<(), ValidFault>
     requires before { ArePartsBeforeOk (module_of checker.now.module.now) (part_rank part) }
     ensures ok { OnOk result (IsPartOk (module_of checker.now.module.now) part) }
     ensures refused { let m = module_of checker.now.module.now in
-        IfErr result (λ fault. IsRefused m fault) }
+        IfErr result (λ fault. IsModuleRefused m fault) }
 {
     let count = part_length(checker.module, part);
     for index in 0..count {
@@ -100,7 +100,7 @@ fn check_parts(checker: &Checker<'_, '_>) -> Result<(), ValidFault>
     requires names { AreNamesNew (module_of checker.now.module.now) checker.now.new_names }
     ensures ok { OnOk result (IsValid (module_of checker.now.module.now)) }
     ensures refused { let m = module_of checker.now.module.now in
-        IfErr result (λ fault. IsRefused m fault) }
+        IfErr result (λ fault. IsModuleRefused m fault) }
 {
     for part in PARTS {
         check_part(checker, part)?;
@@ -122,7 +122,7 @@ fn all_memory_count(module: &Module<'_>) -> u32
 /// a body where its function isn't.
 pub fn validate(alloc: Global, module: &Module<'_>) -> Result<(), ValidFault>
     ensures valid { OnOk result (IsValid (module_of «module».now)) }
-    ensures invalid { IfErr result (λ fault. IsRefused (module_of «module».now) fault) }
+    ensures invalid { IfErr result (λ fault. IsModuleRefused (module_of «module».now) fault) }
 {
     let functions = all_functions(alloc, module)?;
     let tables = all_tables(alloc, module)?;

@@ -8,7 +8,7 @@ use Rattle.wz_words.specs.declared.settings.Usage.TheVariants.{MissingValue, Rep
 use Rattle.wz_words.specs.Options.{Flag, KeepInit, Reactor, Report, Valued, Output, Function, RenameFunction, Fuel, SampleNumber, same_flag, same_valued, decimal}
 use Rattle.wz_words.specs.Parts.{Part, Operand, FlagPart, ValuedPart, UnknownPart, Halves, halves_of, command_parts}
 use Rattle.wz_words.specs.Settings.{Settings, operand_in, has_flag, has_option, values_of, renames_of, with_halves, first_value, number_of_value, asked}
-use Rattle.wz_words.specs.Faults.{number_fault, fuel_limit, sample_limit, rename_fault, value_part_fault, bytes_in, is_extra, is_repeated, is_sample_beside, fault_of, first_fault, or_later, unless_fault, settings}
+use Rattle.wz_words.specs.Faults.{number_fault, fuel_limit, sample_limit, rename_fault, value_part_fault, bytes_together, is_extra, is_repeated, is_sample_beside, fault_of, first_fault, or_later, unless_fault, settings}
 use Rattle.wz_words.specs.Draft.{Draft, empty_draft, fault_in, with_part, rename_fault_in, fault_or, outcome_from, draft_asks}
 
 -- ---- lists of parts, joined
@@ -101,7 +101,7 @@ renames_joined (value ∷ values) more =
     ap (λ (renames : List Rename). with_halves (halves_of value) renames) (renames_joined values more)
     ∙ with_halves_joined (halves_of value) (renames_of values) (renames_of more)
 
-bytes_added : (values : List (List ℕ)) (value : List ℕ) → bytes_in (values ++ value ∷ []) ≡ bytes_in values + length value
+bytes_added : (values : List (List ℕ)) (value : List ℕ) → bytes_together (values ++ value ∷ []) ≡ bytes_together values + length value
 bytes_added [] value = omega arith
 bytes_added (first ∷ values) value = omega (arith, bytes_added values value)
 
@@ -114,7 +114,7 @@ abbrev IsNumber : Valued → List Part → Option ℕ → Type 0
 IsNumber option before number = (has_option option before ≡ is_some number) × (number_of_value (first_value (values_of option before)) ≡ number)
 
 abbrev AreRenames : List Part → List Rename → ℕ → Type 0
-AreRenames before renames bytes = (renames_of (values_of RenameFunction before) ≡ renames) × (bytes_in (values_of RenameFunction before) ≡ bytes)
+AreRenames before renames bytes = (renames_of (values_of RenameFunction before) ≡ renames) × (bytes_together (values_of RenameFunction before) ≡ bytes)
 
 operand_kept : (before : List Part) (part : Part) (operand : Option (List ℕ)) → operand_in (part ∷ []) ≡ None → operand_in before ≡ operand
     → operand_in (before ++ part ∷ []) ≡ operand
@@ -153,7 +153,7 @@ number_kept option before part number e f h =
 
 renames_kept : (before : List Part) (part : Part) (renames : List Rename) (bytes : ℕ) → values_of RenameFunction (part ∷ []) ≡ []
     → AreRenames before renames bytes → AreRenames (before ++ part ∷ []) renames bytes
-renames_kept before part renames bytes f h = (ap renames_of (values_kept RenameFunction before part f) ∙ h.0, ap bytes_in (values_kept RenameFunction before part f) ∙ h.1)
+renames_kept before part renames bytes f h = (ap renames_of (values_kept RenameFunction before part f) ∙ h.0, ap bytes_together (values_kept RenameFunction before part f) ∙ h.1)
 
 text_added : (option : Valued) (before : List Part) (part : Part) (value : List ℕ) → has_option option (part ∷ []) ≡ true → values_of option (part ∷ []) ≡ value ∷ []
     → has_option option before ≡ false → IsText option (before ++ part ∷ []) (Some value)
@@ -169,7 +169,7 @@ renames_added : (before : List Part) (part : Part) (value : List ℕ) (renames :
 renames_added before part value renames bytes f h =
     let values = values_joined RenameFunction before (part ∷ []) ∙ ap (λ (vs : List (List ℕ)). values_of RenameFunction before ++ vs) f in (
       ap renames_of values ∙ renames_joined (values_of RenameFunction before) (value ∷ []) ∙ ap (λ (rs : List Rename). rs ++ with_halves (halves_of value) []) h.0,
-      ap bytes_in values ∙ bytes_added (values_of RenameFunction before) value ∙ ap (λ (n : ℕ). n + length value) h.1,
+      ap bytes_together values ∙ bytes_added (values_of RenameFunction before) value ∙ ap (λ (n : ℕ). n + length value) h.1,
     )
 
 -- ---- the draft says what the parts before it say
@@ -204,7 +204,7 @@ asked_same before d h =
 
 -- ---- the same fault
 
-rename_fault_same : (values : List (List ℕ)) (d : Draft) (at : ℕ) (value : List ℕ) (halves : Option Halves) → renames_of values ≡ d.renames → bytes_in values ≡ d.bytes
+rename_fault_same : (values : List (List ℕ)) (d : Draft) (at : ℕ) (value : List ℕ) (halves : Option Halves) → renames_of values ≡ d.renames → bytes_together values ≡ d.bytes
     → rename_fault values at value halves ≡ rename_fault_in d.renames d.bytes at value halves
 rename_fault_same values d at value None e f = refl
 rename_fault_same values d at value (Some halves) e f = rw (e, f) refl

@@ -10,7 +10,7 @@ use Rattle.wz_words.specs.Parts.{Part, Operand, FlagPart, ValuedPart, UnknownPar
 use Rattle.wz_words.specs.Draft.{Draft, with_part, TakesPart, outcome_from, fault_or}
 use Rattle.wz_words.specs.DraftViews.{place_view}
 use Rattle.wz_words.specs.Left.{words_left}
-use Rattle.wz_words.specs.Reader.{GoesOn}
+use Rattle.wz_words.specs.Reader.{ReadsOn}
 
 abbrev last : Bool → ℕ → List ℕ → WordKind → List Part
 last ended at word kind = last_parts ended at word kind
@@ -58,7 +58,7 @@ parts_unknown ended at word (next ∷ words) e = ap (more ended at word next wor
 -- ---- what comes of the words
 
 pub reads_part : {X : Type 0} (d now : Draft) (part : Part) (parts rest : List Part) (result : Result X Usage) → parts ≡ part ∷ rest → TakesPart d part result now
-    → GoesOn (outcome_from d parts) result (outcome_from now rest)
+    → ReadsOn (outcome_from d parts) result (outcome_from now rest)
 reads_part d now part parts rest (Ok done) e h =
     ap (outcome_from d) e ∙ ap (λ (fault : Option Usage). fault_or fault (outcome_from (with_part d part) rest)) h.0 ∙ sym (ap (λ (there : Draft). outcome_from there rest) h.1)
 reads_part d now part parts rest (Err usage) e (inl memory) = inl memory

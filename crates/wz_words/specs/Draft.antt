@@ -70,19 +70,19 @@ abbrev pub value_part_fault_in : Draft → ℕ → Valued → Option (ℕ × Lis
 value_part_fault_in d at option None = Some (MissingValue at)
 value_part_fault_in d at option (Some value) = value_fault_in d option value.0 value.1
 
-abbrev pub is_sample : Valued → Bool
-is_sample Output = false
-is_sample Function = false
-is_sample RenameFunction = false
-is_sample Fuel = false
-is_sample SampleNumber = true
+abbrev pub is_sample_option : Valued → Bool
+is_sample_option Output = false
+is_sample_option Function = false
+is_sample_option RenameFunction = false
+is_sample_option Fuel = false
+is_sample_option SampleNumber = true
 
 abbrev pub fault_in : Draft → Part → Option Usage
 fault_in d (Operand at word) = if is_some d.operand || is_some d.sample then Some (ExtraWord at) else None
 fault_in d (FlagPart at flag) = if flag_in d flag then Some (RepeatedOption at) else None
 fault_in d (ValuedPart at option value) =
     if is_read d option then Some (RepeatedOption at)
-    else (if is_sample option && is_some d.operand then Some (ExtraWord at)
+    else (if is_sample_option option && is_some d.operand then Some (ExtraWord at)
     else value_part_fault_in d at option value)
 fault_in d (UnknownPart at) = Some (UnknownOption at)
 

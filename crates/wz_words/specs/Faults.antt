@@ -32,15 +32,15 @@ abbrev pub renames_from : List ℕ → List Rename → Bool
 renames_from name renames = list_any (λ rename. same_text rename.src name) renames
 
 -- how many bytes values have together
-abbrev pub bytes_in : List (List ℕ) → ℕ
-bytes_in [] = 0
-bytes_in (value ∷ values) = length value + bytes_in values
+abbrev pub bytes_together : List (List ℕ) → ℕ
+bytes_together [] = 0
+bytes_together (value ∷ values) = length value + bytes_together values
 
 -- two names, few enough bytes in all renames, and two names that no earlier rename has in the same place
 abbrev pub rename_fault : List (List ℕ) → ℕ → List ℕ → Option Halves → Option Usage
 rename_fault earlier at value None = Some (BadRename at)
 rename_fault earlier at value (Some halves) =
-    if nat_lt renames_limit (bytes_in earlier + length value) then Some (RenamesTooLong at)
+    if nat_lt renames_limit (bytes_together earlier + length value) then Some (RenamesTooLong at)
     else (if renames_to halves.front (renames_of earlier) then Some (RenameTwiceTo at)
     else (if renames_from halves.back (renames_of earlier) then Some (RenameTwiceFrom at)
     else None))

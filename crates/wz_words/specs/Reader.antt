@@ -19,9 +19,9 @@ pub record IsUnderWay (reader : Reader) : Type 0 where
   pub within : reader.left.at ≤ length reader.left.words.now
 
 -- a step went on with the same outcome, or met the fault that is the outcome, unless the memory didn't suffice
-abbrev pub GoesOn : {X : Type 0} → Result Settings Usage → Result X Usage → Result Settings Usage → Type 0
-GoesOn there (Ok done) now = there ≡ now
-GoesOn there (Err usage) now = (usage ≡ NoMemory) ⊎ (there ≡ Err usage)
+abbrev pub ReadsOn : {X : Type 0} → Result Settings Usage → Result X Usage → Result Settings Usage → Type 0
+ReadsOn there (Ok done) now = there ≡ now
+ReadsOn there (Err usage) now = (usage ≡ NoMemory) ⊎ (there ≡ Err usage)
 
 -- what comes of the words that are left, with a word before them
 abbrev pub outcome_with : PlacedWord → Reader → Result Settings Usage

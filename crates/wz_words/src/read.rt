@@ -2,7 +2,7 @@
 
 ghost use Rattle.std.specs.Prelude.{◌≡◌, ◌⊎◌, ◌+◌, ◌≤◌, IfErr, IfOk, OnOk};
 ghost use Rattle.wz_words.specs.Faults.{settings};
-ghost use Rattle.wz_words.specs.Reader.{IsUnderWay, GoesOn, outcome_of, outcome_with};
+ghost use Rattle.wz_words.specs.Reader.{IsUnderWay, ReadsOn, outcome_of, outcome_with};
 ghost use Rattle.wz_words.specs.Settings.{settings_of};
 
 use crate::draft::WordsDraft;
@@ -27,7 +27,7 @@ impl<'w> Reader<'w> {
     fn read_word(&mut self, alloc: Global, word: PlacedWord<'w>) -> Result<(), Usage>
         requires going { IsUnderWay self.old }
         requires place { self.old.left.at ≡ word.at + 1 }
-        ensures reads { GoesOn (outcome_with word.entry self.old) result (outcome_of self.new) }
+        ensures reads { ReadsOn (outcome_with word.entry self.old) result (outcome_of self.new) }
         ensures going { OnOk result (IsUnderWay self.new) }
         ensures onward { self.old.left.at ≤ self.new.left.at }
         ensures words { self.new.left.words.now ≡ self.old.left.words.now }

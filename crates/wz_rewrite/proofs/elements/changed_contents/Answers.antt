@@ -5,7 +5,7 @@ use Rattle.wz_module.specs.declared.items.Span.{Span}
 use Rattle.wz_encode.specs.Elements.{LieWithin}
 use Rattle.wz_encode.proofs.ElementsWritten.{spans_lie_within}
 use Rattle.wz_rewrite.specs.Pieces.{MadePiece}
-use Rattle.wz_rewrite.specs.Sources.{input_of, state_of}
+use Rattle.wz_rewrite.specs.Sources.{source_module, source_state}
 use Rattle.wz_rewrite.proofs.SegmentLemmas.{renewed_by_spans, few_spans, dropped_rises}
 use Rattle.wz_rewrite.proofs.elements.changed_contents.Goals as goal
 
@@ -21,9 +21,9 @@ put_elements-requires-clause-few c =
 
 pub put_elements-requires-clause-rises : goal.put_elements-requires-clause-rises
 put_elements-requires-clause-rises c =
-    let o = state_of c.args.sources.now in
+    let o = source_state c.args.sources.now in
     subst (λ (ns : List ℕ). IsNonDecreasing ns) (sym (c.deref-2.ensures.value ∙ c.requires.found.dropped))
-    (dropped_rises o.empty_elements 0 (input_of c.args.sources.now).elements)
+    (dropped_rises o.empty_elements 0 (source_module c.args.sources.now).elements)
 
 pub returns : goal.returns
 returns c =
