@@ -1,5 +1,5 @@
 -- What a machine's tick leaves is what a run asks of it.
-use Rattle.std.proofs.Common.{◌≡◌, ◌<◌, ℕ, zero, suc, length, ◌+◌, List, [], ◌∷◌, Option, Some, None, take, slice_get, option_map, refl, sym, ap, subst, ◌∙◌, arith}
+use Rattle.std.proofs.Common.{◌≡◌, ◌<◌, Bool, true, false, ℕ, zero, suc, length, ◌+◌, List, [], ◌∷◌, Option, Some, None, take, slice_get, option_map, refl, sym, ap, subst, ◌∙◌, arith}
 use Rattle.std.proofs.lemmas.Option.{none-some, slice_get_within, get_or_from_slice_get}
 use Rattle.std.proofs.lemmas.List.Sums.{sum_by_more}
 use Rattle.wz_types.specs.declared.types.MemType.{MemType}
@@ -18,8 +18,10 @@ use Rattle.wz_machine.specs.Replies.{Reply, answer_reply, tick_reply}
 use Rattle.wz_machine.specs.Ticks.{event_of, tick_event}
 use Rattle.wz_machine.specs.Machines.{MachineParts, machine_state, machine_stack, IsReplied}
 use Rattle.wz_machine.specs.Laws.{ChangeReachesState}
+use Rattle.wz_machine.specs.declared.advance.Advance.{Advance}
+use Rattle.wz_machine.specs.Advance.{IsAdvance, StackAdvanced}
 use Rattle.wz_init.specs.Run.{pages_together}
-use Rattle.wz_init.specs.Turns.{top_term, IsAlone, IsTicked}
+use Rattle.wz_init.specs.Turns.{top_term, IsAlone, IsTicked, HasGone, HasAdvanced}
 use Rattle.wz_init.specs.Events.{turned_by}
 
 -- ---- replies
@@ -58,6 +60,27 @@ ticked law old new tick alone event reply =
     (ticked_by s (machine_state new) term (machine_stack new) (step s term) refl
     (state ∙ ap (λ (stack : List Standing). applied (tick_reply s stack).change s) alone)
     (reply.stack ∙ ap (λ (stack : List Standing). (tick_reply s stack).stack) alone))
+
+-- ---- many ticks
+
+gone_by : (entered : Bool) (limit made : ℕ) (s after : State) (term new : Term) → IsAdvance entered limit made s term after new
+    → HasGone entered made s term after new
+gone_by true limit made s after term new steps = steps
+gone_by false limit made s after term new steps = steps.0
+
+-- a machine in which one term stands makes that term's steps
+pub advanced : (done : Advance) (limit : ℕ) (s after : State) (before stack : List Standing) → IsAlone before
+    → StackAdvanced done.entered limit done.made s before after stack → HasAdvanced done s (top_term before) after stack
+advanced done limit s after before stack alone h =
+    let term = top_term before in
+    let steps = subst (λ (x : List Standing). StackAdvanced done.entered limit done.made s x after stack) alone h in
+    let new : Term = steps.2.0 in
+    let stands : stack ≡ Runs new ∷ [] = steps.1 ∙ ap (λ (x : Standing). x ∷ []) steps.2.1 in
+    let top : new ≡ top_term stack = sym (ap (λ (x : List Standing). top_term x) stands) in
+    record {
+      alone = stands ∙ ap (λ (t : Term). Runs t ∷ []) top;
+      ticks = subst (λ (t : Term). HasGone done.entered done.made s term after t) top (gone_by done.entered limit done.made s after term new steps.2.2);
+    }
 
 -- ---- the pages of memories, added up one by one
 

@@ -1,5 +1,5 @@
 -- What a turn is to the run.
-use Rattle.std.proofs.Common.{◌≡◌, ℕ, zero, suc, ◌+◌, ◌-◌, ◌<◌, ◌≤◌, ◌⊎◌, inl, inr, nat_le, ◌==◌, List, [], ◌∷◌, ◌++◌, Option, Some, None, false, length, take, drop, reverse, slice_get, refl, sym, ap, subst, ◌∙◌, arith}
+use Rattle.std.proofs.Common.{◌≡◌, ℕ, zero, suc, ◌+◌, ◌-◌, ◌<◌, ◌≤◌, nat_le, ◌==◌, List, [], ◌∷◌, ◌++◌, Option, Some, None, false, length, take, drop, reverse, slice_get, refl, sym, ap, subst, ◌∙◌, arith}
 use Rattle.wz_types.specs.declared.trap.TrapKind.{TrapKind}
 use Rattle.wz_types.specs.declared.value.Value.{Value}
 use Rattle.wz_types.specs.FunctionType.{FunctionType}
@@ -24,7 +24,7 @@ use Rattle.wz_init.specs.declared.order.Phase.{Phase}
 use Rattle.wz_init.specs.declared.faults.InitFault.{InitFault}
 use Rattle.wz_init.specs.declared.faults.InitFault.TheVariants as fault
 use Rattle.wz_init.specs.Reached.{HoldsOwn, TermOwn}
-use Rattle.wz_init.specs.Turns.{top_term, IsWithinLimits, IsTicked, StopsBy, IsRunning, HasEnded, IsAskedHere, IsBeyond, HasAdvanced}
+use Rattle.wz_init.specs.Turns.{top_term, IsWithinLimits, IsTicked, StopsBy, IsRunning, HasEnded, IsAskedHere, IsBeyond, IsAlone}
 use Rattle.wz_init.proofs.FineLemmas.{AnswerFine, step_fine}
 use Rattle.wz_init.proofs.LeftLemmas.{own_on, own_growth, put_own, growth_value_own}
 use Rattle.wz_machine.specs.Advance.{head_changes_table, Reaches, ReachesEntry}
@@ -248,49 +248,51 @@ module _ (s after : State) (stack : List Standing) (term : Term) (spares : head_
   pub stuck_run : IsTicked s term turned.Stuck after stack → (fuel ticks : ℕ) → run_from (suc fuel) ticks s term ≡ Stopped NoRuleFits
   stuck_run t fuel ticks = run_step fuel ticks s term Stuck spares t
 
--- ---- many ticks
+-- ---- many ticks, none of which entered a function
 
-module _ (made : ℕ) (s after : State) (term : Term) (stack : List Standing) (h : HasAdvanced made s term after stack) (within : IsWithinLimits term) where
-  by_steps : (left ticks : ℕ) → (o : Option Stop) → too_much (top_term stack) ≡ o
-      → Reaches made s term after (top_term stack) ⊎ ReachesEntry made s term after (top_term stack)
-      → run_from (made + left) ticks s term ≡ within_limits (λ t. run_from left (ticks + made) after t) (top_term stack) o
-  by_steps left ticks o e (inl steps) =
-      let none : None ≡ o = sym (nothing_too_much (top_term stack) (reaches_within made s after term (top_term stack) steps within)) ∙ e in
-      reaches_run made s after term (top_term stack) steps within left ticks
-      ∙ ap (λ (x : Option Stop). within_limits (λ t. run_from left (ticks + made) after t) (top_term stack) x) none
-  by_steps left ticks o e (inr steps) =
-      entry_run made s after term (top_term stack) steps within left ticks
-      ∙ ap (λ (x : Option Stop). within_limits (λ t. run_from left (ticks + made) after t) (top_term stack) x) e
+module _ (made : ℕ) (s after : State) (term : Term) (stack : List Standing) (ticked : Reaches made s term after (top_term stack)) (within : IsWithinLimits term) where
+  pub reached_run : (fuel left : ℕ) → fuel ≡ made + left → (ticks : ℕ) → run_from fuel ticks s term ≡ run_from left (ticks + made) after (top_term stack)
+  reached_run fuel left e ticks = ap (λ (n : ℕ). run_from n ticks s term) e ∙ reaches_run made s after term (top_term stack) ticked within left ticks
 
-  pub advanced_run : (fuel left : ℕ) → fuel ≡ made + left → IsWithinLimits (top_term stack) → (ticks : ℕ)
+  pub reached_running : IsAlone stack → HoldsOwn s → TermOwn term → IsRunning after stack
+  reached_running alone own holds =
+      let both = reaches_own made s after term (top_term stack) ticked own holds in
+      record { alone = alone; within = reaches_within made s after term (top_term stack) ticked within; own = both.0; holds = both.1 }
+
+-- ---- many ticks, the last of which entered a function
+
+pub entry_some : (made : ℕ) (s after : State) (term new : Term) → ReachesEntry made s term after new → 0 < made
+entry_some zero s after term new h = absurd h
+entry_some (suc made) s after term new h = omega arith
+
+module _ (made : ℕ) (s after : State) (term : Term) (stack : List Standing) (ticked : ReachesEntry made s term after (top_term stack)) (within : IsWithinLimits term) where
+  by_limits : (fuel left ticks : ℕ) (o : Option Stop) → fuel ≡ made + left → too_much (top_term stack) ≡ o
+      → run_from fuel ticks s term ≡ within_limits (λ t. run_from left (ticks + made) after t) (top_term stack) o
+  by_limits fuel left ticks o e is =
+      ap (λ (n : ℕ). run_from n ticks s term) e ∙ entry_run made s after term (top_term stack) ticked within left ticks
+      ∙ ap (λ (x : Option Stop). within_limits (λ t. run_from left (ticks + made) after t) (top_term stack) x) is
+
+  pub entered_run : (fuel left : ℕ) → fuel ≡ made + left → IsWithinLimits (top_term stack) → (ticks : ℕ)
       → run_from fuel ticks s term ≡ run_from left (ticks + made) after (top_term stack)
-  advanced_run fuel left e there ticks =
-      ap (λ (n : ℕ). run_from n ticks s term) e ∙ by_steps left ticks None (nothing_too_much (top_term stack) there) h.steps
+  entered_run fuel left e there ticks = by_limits fuel left ticks None e (nothing_too_much (top_term stack) there)
 
-  pub advanced_beyond : (fuel left : ℕ) → fuel ≡ made + left → (phase : Phase) (fault : InitFault) → IsBeyond (top_term stack) fault → (ticks : ℕ)
+  pub entered_beyond : (fuel left : ℕ) → fuel ≡ made + left → (phase : Phase) (fault : InitFault) → IsBeyond (top_term stack) fault → (ticks : ℕ)
       → StopsBy phase (run_from fuel ticks s term) fault
-  advanced_beyond fuel left e phase (fault.ElementOutOfBounds index) b ticks = absurd b
-  advanced_beyond fuel left e phase (fault.DataOutOfBounds index) b ticks = absurd b
-  advanced_beyond fuel left e phase (fault.Trap other kind) b ticks = absurd b
-  advanced_beyond fuel left e phase fault.OutOfFuel b ticks = absurd b
-  advanced_beyond fuel left e phase (fault.ImportCalled import) b ticks = absurd b
-  advanced_beyond fuel left e phase (fault.FloatUsed op) b ticks = absurd b
-  advanced_beyond fuel left e phase fault.TableChanged b ticks = absurd b
-  advanced_beyond fuel left e phase fault.TooManyFrames b ticks =
-      ap (λ (n : ℕ). run_from n ticks s term) e ∙ by_steps left ticks (Some FramesAreTooMany) b h.steps
-  advanced_beyond fuel left e phase fault.TooManyFrameLocals b ticks =
-      ap (λ (n : ℕ). run_from n ticks s term) e ∙ by_steps left ticks (Some LocalsAreTooMany) b h.steps
-  advanced_beyond fuel left e phase fault.Stuck b ticks = absurd b
-  advanced_beyond fuel left e phase fault.NoMemory b ticks = absurd b
+  entered_beyond fuel left e phase (fault.ElementOutOfBounds index) b ticks = absurd b
+  entered_beyond fuel left e phase (fault.DataOutOfBounds index) b ticks = absurd b
+  entered_beyond fuel left e phase (fault.Trap other kind) b ticks = absurd b
+  entered_beyond fuel left e phase fault.OutOfFuel b ticks = absurd b
+  entered_beyond fuel left e phase (fault.ImportCalled import) b ticks = absurd b
+  entered_beyond fuel left e phase (fault.FloatUsed op) b ticks = absurd b
+  entered_beyond fuel left e phase fault.TableChanged b ticks = absurd b
+  entered_beyond fuel left e phase fault.TooManyFrames b ticks = by_limits fuel left ticks (Some FramesAreTooMany) e b
+  entered_beyond fuel left e phase fault.TooManyFrameLocals b ticks = by_limits fuel left ticks (Some LocalsAreTooMany) e b
+  entered_beyond fuel left e phase fault.Stuck b ticks = absurd b
+  entered_beyond fuel left e phase fault.NoMemory b ticks = absurd b
 
-  own_by : Reaches made s term after (top_term stack) ⊎ ReachesEntry made s term after (top_term stack) → HoldsOwn s → TermOwn term
-      → HoldsOwn after × TermOwn (top_term stack)
-  own_by (inl steps) own holds = reaches_own made s after term (top_term stack) steps own holds
-  own_by (inr steps) own holds = entry_own made s after term (top_term stack) steps own holds
-
-  pub advanced_running : IsWithinLimits (top_term stack) → HoldsOwn s → TermOwn term → IsRunning after stack
-  advanced_running there own holds =
-      let both = own_by h.steps own holds in record { alone = h.alone; within = there; own = both.0; holds = both.1 }
+  pub entered_running : IsAlone stack → IsWithinLimits (top_term stack) → HoldsOwn s → TermOwn term → IsRunning after stack
+  entered_running alone there own holds =
+      let both = entry_own made s after term (top_term stack) ticked own holds in record { alone = alone; within = there; own = both.0; holds = both.1 }
 
 -- all the fuel was used
 pub round_spent : (fuel made ticks : ℕ) (s after : State) (term new : Term) → fuel - made ≡ 0 → made ≤ fuel

@@ -1,5 +1,5 @@
 -- One turn of a run: what a tick of a machine is to the run of its term. This is the tool's own.
-use Rattle.std.specs.Prelude.{Option, ◌≡◌, ◌≤◌, ◌⊎◌, slice_get, ℕ, suc, ◌+◌, ◌-◌, ◌<◌, List, [], ◌∷◌, Some, None, Bool, true, false}
+use Rattle.std.specs.Prelude.{Option, ◌≡◌, ◌≤◌, slice_get, ℕ, suc, ◌+◌, ◌-◌, ◌<◌, List, [], ◌∷◌, Some, None, Bool, true, false}
 use Rattle.wz_types.specs.declared.value.Value.{Value}
 use Rattle.wz_types.specs.declared.value.Reference.{Reference}
 use Rattle.wz_types.specs.FunctionType.{FunctionType}
@@ -23,6 +23,7 @@ use Rattle.wz_init.specs.declared.faults.InitFault.{InitFault}
 use Rattle.wz_init.specs.declared.faults.InitFault.TheVariants as fault
 use Rattle.wz_init.specs.Run.{FuelIsSpent, TableWouldChange, FramesAreTooMany, LocalsAreTooMany, Trapped, NoRuleFits, FloatIsAsked, ImportIsCalled, RunEnd, Returned, Stopped, frames_limit, all_locals_limit, too_much, run_from}
 use Rattle.wz_init.specs.Reached.{HoldsOwn, TermOwn}
+use Rattle.wz_machine.specs.declared.advance.Advance.{Advance}
 use Rattle.wz_machine.specs.Advance.{Reaches, ReachesEntry}
 use Rattle.wz_store.specs.State.{Memory, pages_of}
 use Rattle.wz_store.specs.Growth.{may_grow}
@@ -145,10 +146,14 @@ IsBeyond term fault.TooManyFrameLocals = too_much term ≡ Some LocalsAreTooMany
 IsBeyond term fault.Stuck = ⊥
 IsBeyond term fault.NoMemory = ⊥
 
--- so many ticks went on, the last of which may have entered a function
-pub record HasAdvanced (made : ℕ) (s : State) (term : Term) (after : State) (stack : List Standing) : Type 0 where
+-- so many ticks went on, and the last of them entered a function, or none did
+abbrev pub HasGone : Bool → ℕ → State → Term → State → Term → Type 0
+HasGone true made s term after new = ReachesEntry made s term after new
+HasGone false made s term after new = Reaches made s term after new
+
+pub record HasAdvanced (done : Advance) (s : State) (term : Term) (after : State) (stack : List Standing) : Type 0 where
   pub alone : IsAlone stack
-  pub steps : Reaches made s term after (top_term stack) ⊎ ReachesEntry made s term after (top_term stack)
+  pub ticks : HasGone done.entered done.made s term after (top_term stack)
 
 -- what is left of a run of so much fuel after a round of ticks
 abbrev pub IsRound : Round → ℕ → State → Term → State → List Standing → Type 0

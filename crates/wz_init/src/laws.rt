@@ -1,5 +1,5 @@
-//! Laws of fresh instances and reached states, for the proofs of other crates. A law is the contract
-//! of a function that does nothing.
+//! Laws of fresh instances and reached states, for the proofs of other crates. A law is the
+//! contract of a function that does nothing.
 
 ghost use Rattle.wz_init.specs.Laws.{FreshIsReached, RunIsReached, StateByBodies};
 

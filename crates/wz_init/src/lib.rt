@@ -1,9 +1,9 @@
 //! A module's instance: as it is made, and as its initialisation leaves it.
 //!
-//! `specs/` is the definition, after section 4.5 of the Core Specification. `Functions`, `Constants`
-//! and `Allocation` say what an instance begins with, `Instantiation` what its active segments make
-//! of it (`fresh`), `Run` what the run of a function comes to with fuel and limits, and `Ready` the
-//! run of all phases. `States` says how a store is a state of the module.
+//! `specs/` is the definition, after section 4.5 of the Core Specification. `Functions`,
+//! `Constants` and `Allocation` say what an instance begins with, `Instantiation` what its active
+//! segments make of it (`fresh`), `Run` what the run of a function comes to with fuel and limits,
+//! and `Ready` the run of all phases. `States` says how a store is a state of the module.
 #![tactic(auto)]
 
 mod allocation;

@@ -92,7 +92,8 @@ fn turn<S: Steps>(machine: &mut S, phase: Phase) -> Result<bool, InitFault>
     }
 }
 
-/// As many ticks as plainly go on, and then one, if there is fuel for it.
+/// As many ticks as plainly go on; where none of them entered a function, then one more, if there
+/// is fuel for it.
 fn round<S: Steps>(machine: &mut S, phase: Phase, fuel: u64) -> Result<Round, InitFault>
     requires running { IsRunning (S.state machine.old) (S.stack machine.old) }
     requires some { 0 < fuel }
@@ -102,10 +103,13 @@ fn round<S: Steps>(machine: &mut S, phase: Phase, fuel: u64) -> Result<Round, In
     ensures stopped { (ticks : ℕ) → IfErr result (λ fault. StopsBy phase
         (run_from fuel ticks (S.state machine.old) (top_term (S.stack machine.old))) fault) }
 {
-    let left = fuel - machine.advance(fuel)?;
-    match check_limits(machine) {
-        Ok(()) => {}
-        Err(fault) => return Err(fault),
+    let done = machine.advance(fuel)?;
+    let left = fuel - done.made;
+    if done.entered {
+        match check_limits(machine) {
+            Ok(()) => return Ok(Round::Goes(left)),
+            Err(fault) => return Err(fault),
+        }
     }
     if left == 0 {
         return Ok(Round::Goes(0));

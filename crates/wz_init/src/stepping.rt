@@ -15,6 +15,7 @@ ghost use Rattle.wz_init.specs.Turns.{HasAdvanced, TakesNothing};
 
 use crate::turn::{Entered, Turned};
 use std::alloc::AllocError;
+use wz_machine::Advance;
 
 /// A machine with one term.
 pub(crate) trait Steps {
@@ -45,12 +46,12 @@ pub(crate) trait Steps {
             (top_term (stack self.old)) turned (state self.new) (stack self.new)) }
         ensures bodies { OnOk result (bodies self.new ≡ bodies self.old) };
 
-    /// Makes up to so many ticks that plainly go on, and says how many. Only the last may enter a
-    /// function.
-    fn advance(&mut self, limit: u64) -> Result<u64, AllocError>
+    /// Makes up to so many ticks that plainly go on, and says how many, and whether the last of
+    /// them entered a function.
+    fn advance(&mut self, limit: u64) -> Result<Advance, AllocError>
         requires { IsAlone (stack self.old) }
-        ensures limit { IfOk result (λ made. made ≤ limit) }
-        ensures made { IfOk result (λ made. HasAdvanced made (state self.old)
+        ensures limit { IfOk result (λ done. done.made ≤ limit) }
+        ensures made { IfOk result (λ done. HasAdvanced done (state self.old)
             (top_term (stack self.old)) (state self.new) (stack self.new)) }
         ensures bodies { OnOk result (bodies self.new ≡ bodies self.old) };
 

@@ -1,9 +1,8 @@
 //! The machine makes the ticks of a run.
 
-ghost use Rattle.std.specs.Prelude.{◌≡◌, ◌∷◌, [], Some, None, IfOk, OnOk};
+ghost use Rattle.std.specs.Prelude.{◌≡◌, ◌≤◌, ◌∷◌, [], Some, None, IfOk, OnOk};
 ghost use Rattle.wz_store.specs.Changes.{applied};
 ghost use Rattle.wz_machine.specs.Terms.{Runs};
-ghost use Rattle.wz_machine.specs.Straight.{changes_table};
 ghost use Rattle.wz_machine.specs.Advance.{head_changes_table};
 ghost use Rattle.wz_machine.specs.Next.{next};
 ghost use Rattle.wz_machine.specs.Replies.{put, question_event};
@@ -13,33 +12,16 @@ ghost use Rattle.wz_machine.specs.Machines.{machine_state, machine_stack};
 ghost use Rattle.wz_machine.specs.Moves.{GrowAsked, HostCall};
 ghost use Rattle.wz_init.specs.Run.{pages_together, is_granted, growth_change, growth_value};
 ghost use Rattle.wz_init.specs.Turns.{top_term, IsAlone, IsEntered, IsTicked, IsAskedHere};
-ghost use Rattle.wz_init.specs.Turns.{TakesNothing};
+ghost use Rattle.wz_init.specs.Turns.{HasAdvanced, TakesNothing};
 ghost use Rattle.wz_init.specs.Events.{turned_by, entered_as};
 
 use crate::stepping::Steps;
 use crate::turn::{Entered, Turned};
 use std::alloc::AllocError;
-use wz_code::Instr;
 use wz_linear::Linear;
-use wz_machine::{Ask, EnterFault, GrowFault, Growth, HostTarget, Machine, Tick};
+use wz_machine::{Advance, Ask, EnterFault, GrowFault, Growth, HostTarget, Machine, Tick};
+use wz_machine::is_table_change;
 use wz_store::{Function, Store};
-
-/// Whether the instruction changes a table.
-fn is_table_change(instr: &Instr) -> bool
-    ensures { result ≡ changes_table instr.now }
-{
-    match *instr {
-        Instr::TableSet(_)
-        | Instr::TableInit {
-            segment: _,
-            table: _,
-        }
-        | Instr::TableCopy { to: _, from: _ }
-        | Instr::TableGrow(_)
-        | Instr::TableFill(_) => true,
-        _ => false,
-    }
-}
 
 /// Whether the next tick of the only term would change a table.
 fn would_change_table<'m, M: Linear>(machine: &Machine<'m, M>) -> bool
@@ -103,6 +85,19 @@ fn tick<'m, M: Linear>(machine: &mut Machine<'m, M>) -> Result<Turned, AllocErro
     wz_machine::laws::steps_write();
     let tick = machine.tick()?;
     Ok(turned(&tick))
+}
+
+/// Many ticks of the only term.
+fn advance<'m, M: Linear>(machine: &mut Machine<'m, M>, limit: u64) -> Result<Advance, AllocError>
+    requires { IsAlone (machine_stack machine.old) }
+    ensures limit { IfOk result (λ done. done.made ≤ limit) }
+    ensures made { IfOk result (λ done. HasAdvanced done (machine_state machine.old)
+        (top_term (machine_stack machine.old)) (machine_state machine.new)
+        (machine_stack machine.new)) }
+    ensures bodies { OnOk result (machine.new.bodies ≡ machine.old.bodies) }
+{
+    let done = machine.advance(limit)?;
+    Ok(done)
 }
 
 /// What entering a function comes to.
@@ -206,9 +201,8 @@ impl<'m, M: Linear> Steps for Machine<'m, M> {
         tick(self)
     }
 
-    // each tick is made by `tick`
-    fn advance(&mut self, _limit: u64) -> Result<u64, AllocError> {
-        Ok(0)
+    fn advance(&mut self, limit: u64) -> Result<Advance, AllocError> {
+        advance(self, limit)
     }
 
     fn frames(&self) -> u64 {

@@ -6,7 +6,6 @@ use Rattle.wz_code.specs.BodyParts.{BodyParts}
 use Rattle.wz_code.specs.Trees.{Code, leaf_in, code_in, headed_in}
 use Rattle.wz_store.specs.Made.{StoreState}
 use Rattle.wz_store.specs.Changes.{Change, applied}
-use Rattle.wz_machine.specs.declared.stride.Stride.TheVariants as stride
 use Rattle.wz_machine.specs.State.{State, state_of}
 use Rattle.wz_machine.specs.Terms.{Term, Standing}
 use Rattle.wz_machine.specs.Standings.{StandingParts, standing_of, stack_of}
@@ -17,7 +16,8 @@ use Rattle.wz_machine.specs.Frames.{frame_count, local_count}
 use Rattle.wz_machine.specs.Stacks.{StackParts, stacks_term}
 use Rattle.wz_machine.specs.Straight.{changes_table}
 use Rattle.wz_machine.specs.Strides.{Gone}
-use Rattle.wz_machine.specs.Advance.{head_changes_table, StandingAdvanced, StackAdvanced, StepsOn, EntersNone, Reaches, ReachesEntry, GoesNot, HaltsNext}
+use Rattle.wz_machine.specs.Advance.{head_changes_table, StandingAdvanced, StackAdvanced, StandingAdvancedPart, StackAdvancedPart, StepsOn, EntersNone, Enters, Reaches, ReachesEntry, GoesNot, HaltsNext, IsOnward}
+use Rattle.wz_machine.specs.declared.advance.Onward.TheVariants as onward
 use Rattle.wz_machine.proofs.ChangeLemmas.{change_reaches_state}
 use Rattle.wz_machine.proofs.StandingLemmas.{stack_top, stack_set}
 use Rattle.wz_machine.proofs.SiteLemmas.{next-head, leaf-spares}
@@ -42,10 +42,10 @@ reaches_more m n s between after term middle new at first on none =
     subst (λ k. Reaches k s term after new) more (between, middle, first, on, none)
 
 pub reaches_entry : (m n : ℕ) (s between after : State) (term middle new : Term) → n ≡ m + 1 → Reaches m s term between middle → StepsOn between middle after new
-    → ReachesEntry n s term after new
-reaches_entry m n s between after term middle new at first on =
+    → Enters middle new → ReachesEntry n s term after new
+reaches_entry m n s between after term middle new at first on enters =
     let more : suc m ≡ n = omega (arith, at) in
-    subst (λ k. ReachesEntry k s term after new) more (between, middle, first, on)
+    subst (λ k. ReachesEntry k s term after new) more (between, middle, first, on, enters)
 
 -- the instruction in front
 headed-spares : (body : BodyParts) (instr : Instr) (rest : Code) → head_changes_table (head_of (headed_in body instr rest)) ≡ changes_table instr
@@ -74,17 +74,21 @@ gone_on bodies s before now t gone spares = record {
   spares = spares;
 }
 
--- a step that doesn't go on, and leaves all as it was
-pub halts_after : (bodies : List BodyParts) (m limit : ℕ) (first : State) (term : Term) (store after : StoreState) (before now : StackParts) (answer : Answer)
-    → Reaches m first term (state_of bodies store) (stacks_term before) → now ≡ before → after ≡ store → step (state_of bodies store) (stacks_term before) ≡ answer → GoesNot answer
-    → Reaches m first term (state_of bodies after) (stacks_term now) × ((m ≡ limit) ⊎ HaltsNext (state_of bodies after) (stacks_term now))
-halts_after bodies m limit first term store after before now answer ran same kept is halts =
-    let P : StackParts → StoreState → Type 0 =
-    λ x y. Reaches m first term (state_of bodies y) (stacks_term x) × ((m ≡ limit) ⊎ HaltsNext (state_of bodies y) (stacks_term x)) in
-    let goes : GoesNot (step (state_of bodies store) (stacks_term before)) = subst (λ (a : Answer). GoesNot a) (sym is) halts in
-    let one : P before store = (ran, inr (inr goes)) in
-    let two : P now store = subst (λ (x : StackParts). P x store) (sym same) one in
-    subst (λ (y : StoreState). P now y) (sym kept) two
+-- a step that doesn't go on leaves all as it was
+pub halts_here : (bodies : List BodyParts) (store after : StoreState) (before now : StackParts) (answer : Answer) → now ≡ before → after ≡ store
+    → step (state_of bodies store) (stacks_term before) ≡ answer → GoesNot answer
+    → IsOnward onward.Halts (state_of bodies store) (stacks_term before) (state_of bodies after) (stacks_term now)
+halts_here bodies store after before now answer same kept is halts =
+    (ap (λ (x : StoreState). state_of bodies x) kept, ap (λ (x : StackParts). stacks_term x) same, inr (subst (λ (a : Answer). GoesNot a) (sym is) halts))
+
+-- many steps, behind which the next one doesn't go on
+pub reaches_halt : (m limit : ℕ) (first s after : State) (term middle new : Term) → Reaches m first term s middle → IsOnward onward.Halts s middle after new
+    → Reaches m first term after new × ((m ≡ limit) ⊎ HaltsNext after new)
+reaches_halt m limit first s after term middle new ran (same, stays, halts) =
+    let P : State → Term → Type 0 = λ x t. Reaches m first term x t × ((m ≡ limit) ⊎ HaltsNext x t) in
+    let one : P s middle = (ran, inr halts) in
+    let two : P after middle = subst (λ (x : State). P x middle) (sym same) one in
+    subst (λ (t : Term). P after t) (sym stays) two
 
 -- the topmost term is the last of a list
 pub stack_advanced : (entered : Bool) (limit made : ℕ) (s after : State) (xs ys : List StandingParts) (before now d : StandingParts) (n : ℕ) → n ≡ length xs → 0 < n
@@ -101,3 +105,9 @@ stack_advanced entered limit made s after xs ys before now d n len some is set_t
     ap (λ (zs : List StandingParts). stack_of zs) (set_to ∙ ap (λ k. set xs k now) place) ∙ stack_set xs now positive in
     let P : List Standing → Type 0 = λ x. StackAdvanced entered limit made s x after (stack_of ys) in
     subst P (sym was) (standing_of now, later, advanced)
+
+pub stack_part : (limit : ℕ) (s after : State) (xs ys : List StandingParts) (before now d : StandingParts) (n : ℕ) → n ≡ length xs → 0 < n
+    → before ≡ get_or xs (n - 1) d → ys ≡ set xs (n - 1) now → StandingAdvancedPart limit s (standing_of before) after (standing_of now)
+    → StackAdvancedPart limit s (stack_of xs) after (stack_of ys)
+stack_part limit s after xs ys before now d n len some is set_to (made, few, advanced) =
+    (made, few, stack_advanced false made made s after xs ys before now d n len some is set_to advanced)

@@ -1,5 +1,5 @@
 -- Many steps of one term that plainly go on (section 4.4 of the Core Specification), as a run makes them.
-use Rattle.std.specs.Prelude.{◌≡◌, ◌≤◌, ◌⊎◌, ℕ, zero, suc, List, [], ◌∷◌, Option, Some, None, Bool, true, false, IsTrue, IsFalse}
+use Rattle.std.specs.Prelude.{◌≡◌, ◌≤◌, ◌<◌, ◌⊎◌, ℕ, zero, suc, List, [], ◌∷◌, Option, Some, None, Bool, true, false, IsTrue, IsFalse}
 use Rattle.wz_code.specs.Trees.{Leaf, Plain, TableBranch, TypedSelect}
 use Rattle.wz_store.specs.Changes.{Change, applied}
 use Rattle.wz_machine.specs.State.{State}
@@ -9,6 +9,8 @@ use Rattle.wz_machine.specs.Step.{step}
 use Rattle.wz_machine.specs.Next.{Head, LeafHead, BlockHead, LoopHead, IfHead, next}
 use Rattle.wz_machine.specs.Frames.{frame_count, local_count}
 use Rattle.wz_machine.specs.Straight.{changes_table}
+use Rattle.wz_machine.specs.declared.advance.Onward.{Onward}
+use Rattle.wz_machine.specs.declared.advance.Onward.TheVariants as onward
 
 -- ---- instructions that change a table
 
@@ -38,6 +40,10 @@ pub record EntersNone (term new : Term) : Type 0 where
   pub frames : frame_count new ≤ frame_count term
   pub locals : local_count new ≤ local_count term
 
+-- It enters one: there are more frames, or more locals in them.
+abbrev pub Enters : Term → Term → Type 0
+Enters term new = (frame_count term < frame_count new) ⊎ (local_count term < local_count new)
+
 -- ---- many steps
 
 -- So many steps lead from one state and term to the others; none changes a table or enters a function.
@@ -46,10 +52,11 @@ Reaches zero s term after new = (after ≡ s) × (new ≡ term)
 Reaches (suc n) s term after new =
     (between : State) × (middle : Term) × Reaches n s term between middle × StepsOn between middle after new × EntersNone middle new
 
--- The same, but the last of them may enter a function.
+-- The same, but the last of them enters a function.
 abbrev pub ReachesEntry : ℕ → State → Term → State → Term → Type 0
 ReachesEntry zero s term after new = ⊥
-ReachesEntry (suc n) s term after new = (between : State) × (middle : Term) × Reaches n s term between middle × StepsOn between middle after new
+ReachesEntry (suc n) s term after new =
+    (between : State) × (middle : Term) × Reaches n s term between middle × StepsOn between middle after new × Enters middle new
 
 -- ---- where it ends early
 
@@ -65,10 +72,16 @@ GoesNot Stuck = Unit {0}
 abbrev pub HaltsNext : State → Term → Type 0
 HaltsNext s term = IsTrue (head_changes_table (next term)) ⊎ GoesNot (step s term)
 
+-- what one more step comes to: it isn't made, or it enters no function, or it enters one
+abbrev pub IsOnward : Onward → State → Term → State → Term → Type 0
+IsOnward onward.Halts s term after new = (after ≡ s) × (new ≡ term) × HaltsNext s term
+IsOnward onward.Went s term after new = StepsOn s term after new × EntersNone term new
+IsOnward onward.Entered s term after new = StepsOn s term after new × Enters term new
+
 -- ---- an advance
 
 -- So many steps were made, as many as were asked for or up to where the next one doesn't plainly go on; or the last one entered a
--- function.
+-- function, and none before it did.
 abbrev pub IsAdvance : Bool → ℕ → ℕ → State → Term → State → Term → Type 0
 IsAdvance true limit made s term after new = ReachesEntry made s term after new
 IsAdvance false limit made s term after new = Reaches made s term after new × ((made ≡ limit) ⊎ HaltsNext after new)
@@ -83,3 +96,15 @@ abbrev pub StackAdvanced : Bool → ℕ → ℕ → State → List Standing → 
 StackAdvanced entered limit made s [] after new = (made ≡ 0) × (after ≡ s) × (new ≡ [])
 StackAdvanced entered limit made s (top ∷ below) after new =
     (now : Standing) × (new ≡ now ∷ below) × StandingAdvanced entered limit made s top after now
+
+-- ---- an advance that memory was refused to
+
+-- Some of the steps were made, as by one that fewer steps were asked of.
+abbrev pub IsAdvancePart : ℕ → State → Term → State → Term → Type 0
+IsAdvancePart limit s term after new = (made : ℕ) × (made ≤ limit) × IsAdvance false made made s term after new
+
+abbrev pub StandingAdvancedPart : ℕ → State → Standing → State → Standing → Type 0
+StandingAdvancedPart limit s standing after new = (made : ℕ) × (made ≤ limit) × StandingAdvanced false made made s standing after new
+
+abbrev pub StackAdvancedPart : ℕ → State → List Standing → State → List Standing → Type 0
+StackAdvancedPart limit s stack after new = (made : ℕ) × (made ≤ limit) × StackAdvanced false made made s stack after new

@@ -1,13 +1,15 @@
 //! Many steps of one term at once.
 
-ghost use Rattle.std.specs.Prelude.{◌≡◌, length, IfOk};
+ghost use Rattle.std.specs.Prelude.{◌≡◌, ◌≤◌, length, IfOk, OnErr};
 ghost use Rattle.wz_machine.specs.State.{state_of};
 ghost use Rattle.wz_machine.specs.Next.{next};
 ghost use Rattle.wz_machine.specs.Stacks.{stacks_term};
 ghost use Rattle.wz_machine.specs.Standings.{work_term, standing_of, stack_of};
 ghost use Rattle.wz_machine.specs.Machines.{machine_state, machine_stack};
 ghost use Rattle.wz_machine.specs.Keeping.{work_parts};
-ghost use Rattle.wz_machine.specs.Advance.{head_changes_table, IsAdvance, StandingAdvanced, StackAdvanced};
+ghost use Rattle.wz_machine.specs.Advance.{head_changes_table, IsOnward};
+ghost use Rattle.wz_machine.specs.Advance.{IsAdvance, StandingAdvanced, StackAdvanced};
+ghost use Rattle.wz_machine.specs.Advance.{IsAdvancePart, StandingAdvancedPart, StackAdvancedPart};
 
 use crate::machine::Machine;
 use crate::stacks::Stacks;
@@ -26,6 +28,15 @@ pub struct Advance {
     pub entered: bool,
 }
 
+/// What one more step comes to: none is made, since it would change a table or not go on; or it
+/// went on, and entered no function, or one.
+#[derive(Clone, Copy)]
+pub(crate) enum Onward {
+    Halts,
+    Went,
+    Entered,
+}
+
 impl<'m> Stacks<'m> {
     /// Whether the instruction that comes next changes a table.
     fn meets_table(&self) -> bool
@@ -38,6 +49,45 @@ impl<'m> Stacks<'m> {
         }
     }
 
+    /// One step more, where it goes on and changes no table.
+    #[inline(always)]
+    fn step_on<M: Linear>(
+        &mut self,
+        bodies: &'m [Body],
+        store: &mut Store<'m, M>,
+    ) -> Result<Onward, AllocError>
+        ensures stepped { IfOk result (λ onward. IsOnward onward
+            (state_of bodies.now store.old) (stacks_term self.old)
+            (state_of bodies.now store.new) (stacks_term self.new)) }
+        ensures refused { OnErr result (self.new ≡ self.old) }
+        ensures kept { OnErr result (store.new ≡ store.old) }
+    {
+        if self.meets_table() {
+            return Ok(Onward::Halts);
+        }
+        let frames = self.frames();
+        let locals = self.frame_locals();
+        match self.stride(bodies, store)? {
+            Stride::Went => {}
+            Stride::Ends { at: _, count: _ } => return Ok(Onward::Halts),
+            Stride::Trapped(_) => return Ok(Onward::Halts),
+            Stride::Stuck => return Ok(Onward::Halts),
+            Stride::Asks {
+                pending: _,
+                count: _,
+                rest: _,
+                have: _,
+            } => return Ok(Onward::Halts),
+        }
+        if self.frames() > frames {
+            return Ok(Onward::Entered);
+        }
+        if self.frame_locals() > locals {
+            return Ok(Onward::Entered);
+        }
+        Ok(Onward::Went)
+    }
+
     /// Makes at most so many steps that plainly go on, the last of which may enter a function.
     pub fn advance<M: Linear>(
         &mut self,
@@ -45,7 +95,11 @@ impl<'m> Stacks<'m> {
         bodies: &'m [Body],
         store: &mut Store<'m, M>,
     ) -> Result<Advance, AllocError>
-        ensures { IfOk result (λ done. IsAdvance done.entered limit done.made
+        ensures advanced { IfOk result (λ done. IsAdvance done.entered limit done.made
+            (state_of bodies.now store.old) (stacks_term self.old)
+            (state_of bodies.now store.new) (stacks_term self.new)) }
+        ensures limited { IfOk result (λ done. done.made ≤ limit) }
+        ensures refused { OnErr result (IsAdvancePart limit
             (state_of bodies.now store.old) (stacks_term self.old)
             (state_of bodies.now store.new) (stacks_term self.new)) }
     {
@@ -59,45 +113,20 @@ impl<'m> Stacks<'m> {
                     entered: false,
                 });
             }
-            if self.meets_table() {
-                return Ok(Advance {
-                    made,
-                    entered: false,
-                });
-            }
-            let frames = self.frames();
-            let locals = self.frame_locals();
-            match self.stride(bodies, store)? {
-                Stride::Went => made += 1,
-                Stride::Ends { at: _, count: _ } => return Ok(Advance {
-                    made,
-                    entered: false,
-                }),
-                Stride::Trapped(_) => return Ok(Advance {
-                    made,
-                    entered: false,
-                }),
-                Stride::Stuck => return Ok(Advance {
-                    made,
-                    entered: false,
-                }),
-                Stride::Asks {
-                    pending: _,
-                    count: _,
-                    rest: _,
-                    have: _,
-                } => {
+            match self.step_on(bodies, store)? {
+                Onward::Went => made += 1,
+                Onward::Halts => {
                     return Ok(Advance {
                         made,
                         entered: false,
                     });
                 }
-            }
-            if self.frames() > frames || self.frame_locals() > locals {
-                return Ok(Advance {
-                    made,
-                    entered: true,
-                });
+                Onward::Entered => {
+                    return Ok(Advance {
+                        made: made + 1,
+                        entered: true,
+                    });
+                }
             }
         }
         Ok(Advance {
@@ -114,7 +143,11 @@ fn advance_work<'m, M: Linear>(
     work: &mut Work<'m>,
     store: &mut Store<'m, M>,
 ) -> Result<Advance, AllocError>
-    ensures { IfOk result (λ done. IsAdvance done.entered limit done.made
+    ensures advanced { IfOk result (λ done. IsAdvance done.entered limit done.made
+        (state_of bodies.now store.old) (work_term (work_parts work.old))
+        (state_of bodies.now store.new) (work_term (work_parts work.new))) }
+    ensures limited { IfOk result (λ done. done.made ≤ limit) }
+    ensures refused { OnErr result (IsAdvancePart limit
         (state_of bodies.now store.old) (work_term (work_parts work.old))
         (state_of bodies.now store.new) (work_term (work_parts work.new))) }
 {
@@ -138,7 +171,11 @@ impl<'m> Standing<'m> {
         bodies: &'m [Body],
         store: &mut Store<'m, M>,
     ) -> Result<Advance, AllocError>
-        ensures { IfOk result (λ done. StandingAdvanced done.entered limit done.made
+        ensures advanced { IfOk result (λ done. StandingAdvanced done.entered limit done.made
+            (state_of bodies.now store.old) (standing_of self.old)
+            (state_of bodies.now store.new) (standing_of self.new)) }
+        ensures limited { IfOk result (λ done. done.made ≤ limit) }
+        ensures refused { OnErr result (StandingAdvancedPart limit
             (state_of bodies.now store.old) (standing_of self.old)
             (state_of bodies.now store.new) (standing_of self.new)) }
     {
@@ -163,6 +200,10 @@ fn advance_top<'m, M: Linear>(
     ensures advanced { IfOk result (λ done. StackAdvanced done.entered limit done.made
         (state_of bodies.now store.old) (stack_of standings.old.items)
         (state_of bodies.now store.new) (stack_of standings.new.items)) }
+    ensures limited { IfOk result (λ done. done.made ≤ limit) }
+    ensures refused { OnErr result (StackAdvancedPart limit
+        (state_of bodies.now store.old) (stack_of standings.old.items)
+        (state_of bodies.now store.new) (stack_of standings.new.items)) }
     ensures len { length standings.new.items ≡ length standings.old.items }
 {
     match standings.last_mut() {
@@ -180,10 +221,13 @@ fn advance_top<'m, M: Linear>(
 impl<'m, M: Linear> Machine<'m, M> {
     /// Makes at most so many steps of the topmost term that plainly go on, and says how many and
     /// whether the last of them entered a function. It ends early only there, and before a step
-    /// that changes a table or doesn't go on. An error is a want of memory, after any number of
-    /// steps.
+    /// that changes a table or doesn't go on. Where memory is refused, some of the steps were made.
     pub fn advance(&mut self, limit: u64) -> Result<Advance, AllocError>
         ensures advanced { IfOk result (λ done. StackAdvanced done.entered limit done.made
+            (machine_state self.old) (machine_stack self.old)
+            (machine_state self.new) (machine_stack self.new)) }
+        ensures limited { IfOk result (λ done. done.made ≤ limit) }
+        ensures refused { OnErr result (StackAdvancedPart limit
             (machine_state self.old) (machine_stack self.old)
             (machine_state self.new) (machine_stack self.new)) }
         ensures bodies { self.new.bodies ≡ self.old.bodies }

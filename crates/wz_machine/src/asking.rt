@@ -19,8 +19,8 @@ use wz_store::Store;
 use wz_types::{Reference, TrapKind, Value};
 
 /// What a step comes to that may ask: the term went on; it waits with a question, whose operands
-/// are the last `count` of the first `have` values, and the stacks stand before the instruction yet;
-/// it traps; or no rule fits.
+/// are the last `count` of the first `have` values, and the stacks stand before the instruction
+/// yet; it traps; or no rule fits.
 #[derive(Clone, Copy)]
 pub(crate) enum AskTurn<'m> {
     Went,
@@ -93,7 +93,8 @@ impl<'m> Stacks<'m> {
     ) -> AskTurn<'m>
         requires { self.old.top.rest ≡ MemoryGrow memory ∷ rest.now }
         ensures { (bodies : List BodyParts) → AskTurned
-            (step (state_of bodies store.now) (stacks_term self.old)) self.old rest.now result self.new }
+            (step (state_of bodies store.now) (stacks_term self.old))
+            self.old rest.now result self.new }
     {
         let Some(by) = number_in(self.own()) else {
             return AskTurn::Stuck;
@@ -125,7 +126,8 @@ impl<'m> Stacks<'m> {
     ) -> AskTurn<'m>
         requires { self.old.top.rest ≡ TableGrow table ∷ rest.now }
         ensures { (bodies : List BodyParts) → AskTurned
-            (step (state_of bodies store.now) (stacks_term self.old)) self.old rest.now result self.new }
+            (step (state_of bodies store.now) (stacks_term self.old))
+            self.old rest.now result self.new }
     {
         let Some((by, value)) = growth_in(self.own()) else {
             return AskTurn::Stuck;

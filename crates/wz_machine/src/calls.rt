@@ -62,7 +62,8 @@ fn push_within<'m>(outer: &mut Vec<Opened<'m>>, around: Opened<'m>)
 }
 
 impl<'m> Stacks<'m> {
-    /// Enters a call of this body, whose arguments are the last `params` of the first `have` values.
+    /// Enters a call of this body, whose arguments are the last `params` of the first `have`
+    /// values.
     pub fn push_call(
         &mut self,
         rest: &'m [Instr],

@@ -45,3 +45,4 @@ pub use advance::Advance;
 pub use answers::{EnterFault, GrowFault, HostFault, NotNow, Tick};
 pub use machine::Machine;
 pub use questions::{Ask, FloatReply, Growth, HostTarget};
+pub use straight::is_table_change;

@@ -99,8 +99,8 @@ impl<'m, M: Linear> Machine<'m, M> {
         frame_locals_in(&self.standings)
     }
 
-    /// Puts the term of a call on top (section 4.5.5): a frame, or for an import the question for the
-    /// host's function.
+    /// Puts the term of a call on top (section 4.5.5): a frame, or for an import the question for
+    /// the host's function.
     pub fn enter(&mut self, function: u32, args: &[Value]) -> Result<(), EnterFault>
         ensures reply { OnOk result (IsReplied self.old self.new
             (function_reply (machine_state self.old) (machine_stack self.old) function args.now)) }

@@ -52,8 +52,8 @@ fn first_of(standings: &[Standing<'_>]) -> Option<Instr>
 }
 
 impl<'m, M: Linear> Machine<'m, M> {
-    /// The instruction that the next tick reduces; none where it leaves a block or a function at its
-    /// end, where the topmost term is values alone or waits, or where no term stands.
+    /// The instruction that the next tick reduces; none where it leaves a block or a function at
+    /// its end, where the topmost term is values alone or waits, or where no term stands.
     pub fn peek(&self) -> Option<Instr>
         ensures { Shows result (stack_next (machine_stack self.now)) }
     {

@@ -33,7 +33,7 @@ pub(crate) struct Pause {
 
 /// Whether the instruction changes a table, which is not done in a run.
 #[inline(always)]
-pub(crate) fn is_table_change(instr: &Instr) -> bool
+pub fn is_table_change(instr: &Instr) -> bool
     ensures { result ≡ changes_table instr.now }
 {
     match *instr {

@@ -1,95 +1,60 @@
-use Rattle.std.proofs.Common.{◌≡◌, ◌+◌, inl, inr, refl, sym, ◌∙◌, arith}
+use Rattle.std.proofs.Common.{◌≡◌, ◌≤◌, ◌+◌, inl, inr, refl, sym, subst, ap, ◌∙◌, arith}
 use Rattle.wz_machine.specs.State.{state_of}
 use Rattle.wz_machine.specs.Stacks.{stacks_term}
-use Rattle.wz_machine.specs.Advance.{Reaches, EntersNone}
-use Rattle.wz_machine.proofs.AdvanceLemmas.{reaches_add, reaches_more, reaches_entry, gone_on, halts_after}
+use Rattle.wz_machine.specs.Advance.{Reaches}
+use Rattle.wz_machine.proofs.AdvanceLemmas.{reaches_add, reaches_more, reaches_entry, reaches_halt}
 use Rattle.wz_machine.proofs.stacks.Stacks.advance.Goals as goal
 
-pub returns-then-made-limit : goal.returns-then-made-limit
-returns-then-made-limit g c =
+pub returns-then-made-limit-clause-advanced : goal.returns-then-made-limit-clause-advanced
+returns-then-made-limit-clause-advanced g c =
     let bodies = c.args.bodies.now in
+    let first = state_of bodies c.args.store.now in
+    let term = stacks_term c.args.self.now in
     let made = c.loop-made.made + c.in_ok-pause.pause.made in
-    let both : Reaches made (state_of bodies c.args.store.now) (stacks_term c.args.self.now) (state_of bodies c.run.new.store) (stacks_term c.run.new.self) =
-    reaches_add c.loop-made.made c.in_ok-pause.pause.made (state_of bodies c.args.store.now) (state_of bodies c.loop-made.store) (state_of bodies c.run.new.store)
-    (stacks_term c.args.self.now) (stacks_term c.loop-made.self) (stacks_term c.run.new.self) c.loop-made.invariant.1 (c.in_ok-pause.ensures.ran bodies) in
+    let both : Reaches made first term (state_of bodies c.run.new.store) (stacks_term c.run.new.self) =
+    reaches_add c.loop-made.made c.in_ok-pause.pause.made first (state_of bodies c.loop-made.store) (state_of bodies c.run.new.store) term (stacks_term c.loop-made.self)
+    (stacks_term c.run.new.self) c.loop-made.invariant.ran (c.in_ok-pause.ensures.ran bodies) in
     (both, inl c.if-made-limit.true)
 
-pub returns-then-meets_table : goal.returns-then-meets_table
-returns-then-meets_table g c =
+pub returns-in-Halts-clause-advanced : goal.returns-in-Halts-clause-advanced
+returns-in-Halts-clause-advanced g c =
     let bodies = c.args.bodies.now in
+    let first = state_of bodies c.args.store.now in
+    let term = stacks_term c.args.self.now in
     let made = c.loop-made.made + c.in_ok-pause.pause.made in
-    let both : Reaches made (state_of bodies c.args.store.now) (stacks_term c.args.self.now) (state_of bodies c.run.new.store) (stacks_term c.run.new.self) =
-    reaches_add c.loop-made.made c.in_ok-pause.pause.made (state_of bodies c.args.store.now) (state_of bodies c.loop-made.store) (state_of bodies c.run.new.store)
-    (stacks_term c.args.self.now) (stacks_term c.loop-made.self) (stacks_term c.run.new.self) c.loop-made.invariant.1 (c.in_ok-pause.ensures.ran bodies) in
-    (both, inr (inl (sym c.meets_table.ensures ∙ c.if-meets_table.true)))
+    let both : Reaches made first term (state_of bodies c.run.new.store) (stacks_term c.run.new.self) =
+    reaches_add c.loop-made.made c.in_ok-pause.pause.made first (state_of bodies c.loop-made.store) (state_of bodies c.run.new.store) term (stacks_term c.loop-made.self)
+    (stacks_term c.run.new.self) c.loop-made.invariant.ran (c.in_ok-pause.ensures.ran bodies) in
+    let stepped = rw c.in-Halts.is at c.in_ok-step_on.ensures.stepped in
+    reaches_halt made c.args.limit first (state_of bodies c.run.new.store) (state_of bodies c.step_on.new.store) term (stacks_term c.run.new.self)
+    (stacks_term c.step_on.new.self) both stepped
 
-pub returns-in-Ends : goal.returns-in-Ends
-returns-in-Ends g c =
+pub returns-in-Entered-clause-advanced : goal.returns-in-Entered-clause-advanced
+returns-in-Entered-clause-advanced g c =
     let bodies = c.args.bodies.now in
+    let first = state_of bodies c.args.store.now in
+    let term = stacks_term c.args.self.now in
     let made = c.loop-made.made + c.in_ok-pause.pause.made in
-    let both : Reaches made (state_of bodies c.args.store.now) (stacks_term c.args.self.now) (state_of bodies c.run.new.store) (stacks_term c.run.new.self) =
-    reaches_add c.loop-made.made c.in_ok-pause.pause.made (state_of bodies c.args.store.now) (state_of bodies c.loop-made.store) (state_of bodies c.run.new.store)
-    (stacks_term c.args.self.now) (stacks_term c.loop-made.self) (stacks_term c.run.new.self) c.loop-made.invariant.1 (c.in_ok-pause.ensures.ran bodies) in
-    let strode = rw c.in-Ends.is at c.in_ok-stride.ensures.strode in
-    halts_after bodies made c.args.limit (state_of bodies c.args.store.now) (stacks_term c.args.self.now) c.run.new.store c.stride.new.store c.run.new.self
-    c.stride.new.self _ both strode.0.same strode.1 strode.0.done tt
-
-pub returns-in-Trapped : goal.returns-in-Trapped
-returns-in-Trapped g c =
-    let bodies = c.args.bodies.now in
-    let made = c.loop-made.made + c.in_ok-pause.pause.made in
-    let both : Reaches made (state_of bodies c.args.store.now) (stacks_term c.args.self.now) (state_of bodies c.run.new.store) (stacks_term c.run.new.self) =
-    reaches_add c.loop-made.made c.in_ok-pause.pause.made (state_of bodies c.args.store.now) (state_of bodies c.loop-made.store) (state_of bodies c.run.new.store)
-    (stacks_term c.args.self.now) (stacks_term c.loop-made.self) (stacks_term c.run.new.self) c.loop-made.invariant.1 (c.in_ok-pause.ensures.ran bodies) in
-    let strode = rw c.in-Trapped.is at c.in_ok-stride.ensures.strode in
-    halts_after bodies made c.args.limit (state_of bodies c.args.store.now) (stacks_term c.args.self.now) c.run.new.store c.stride.new.store c.run.new.self
-    c.stride.new.self _ both strode.1 strode.2 strode.0 tt
-
-pub returns-in-Stuck : goal.returns-in-Stuck
-returns-in-Stuck g c =
-    let bodies = c.args.bodies.now in
-    let made = c.loop-made.made + c.in_ok-pause.pause.made in
-    let both : Reaches made (state_of bodies c.args.store.now) (stacks_term c.args.self.now) (state_of bodies c.run.new.store) (stacks_term c.run.new.self) =
-    reaches_add c.loop-made.made c.in_ok-pause.pause.made (state_of bodies c.args.store.now) (state_of bodies c.loop-made.store) (state_of bodies c.run.new.store)
-    (stacks_term c.args.self.now) (stacks_term c.loop-made.self) (stacks_term c.run.new.self) c.loop-made.invariant.1 (c.in_ok-pause.ensures.ran bodies) in
-    let strode = rw c.in-Stuck.is at c.in_ok-stride.ensures.strode in
-    halts_after bodies made c.args.limit (state_of bodies c.args.store.now) (stacks_term c.args.self.now) c.run.new.store c.stride.new.store c.run.new.self
-    c.stride.new.self _ both strode.1 strode.2 strode.0 tt
-
-pub returns-in-Asks : goal.returns-in-Asks
-returns-in-Asks g c =
-    let bodies = c.args.bodies.now in
-    let made = c.loop-made.made + c.in_ok-pause.pause.made in
-    let both : Reaches made (state_of bodies c.args.store.now) (stacks_term c.args.self.now) (state_of bodies c.run.new.store) (stacks_term c.run.new.self) =
-    reaches_add c.loop-made.made c.in_ok-pause.pause.made (state_of bodies c.args.store.now) (state_of bodies c.loop-made.store) (state_of bodies c.run.new.store)
-    (stacks_term c.args.self.now) (stacks_term c.loop-made.self) (stacks_term c.run.new.self) c.loop-made.invariant.1 (c.in_ok-pause.ensures.ran bodies) in
-    let strode = rw c.in-Asks.is at c.in_ok-stride.ensures.strode in
-    halts_after bodies made c.args.limit (state_of bodies c.args.store.now) (stacks_term c.args.self.now) c.run.new.store c.stride.new.store c.run.new.self
-    c.stride.new.self _ both strode.1 strode.2 strode.0.asked.asks tt
-
-pub returns-then-frames : goal.returns-then-frames
-returns-then-frames g c =
-    let bodies = c.args.bodies.now in
-    let made = c.loop-made.made + c.in_ok-pause.pause.made in
-    let both : Reaches made (state_of bodies c.args.store.now) (stacks_term c.args.self.now) (state_of bodies c.run.new.store) (stacks_term c.run.new.self) =
-    reaches_add c.loop-made.made c.in_ok-pause.pause.made (state_of bodies c.args.store.now) (state_of bodies c.loop-made.store) (state_of bodies c.run.new.store)
-    (stacks_term c.args.self.now) (stacks_term c.loop-made.self) (stacks_term c.run.new.self) c.loop-made.invariant.1 (c.in_ok-pause.ensures.ran bodies) in
-    let gone = rw c.in-Went.is at c.in_ok-stride.ensures.strode in
-    reaches_entry made (made + 1) (state_of bodies c.args.store.now) (state_of bodies c.run.new.store) (state_of bodies c.stride.new.store) (stacks_term c.args.self.now)
-    (stacks_term c.run.new.self) (stacks_term c.stride.new.self) refl both
-    (gone_on bodies c.run.new.store c.run.new.self c.stride.new.self c.stride.new.store gone (sym c.meets_table.ensures ∙ c.if-meets_table.false))
+    let both : Reaches made first term (state_of bodies c.run.new.store) (stacks_term c.run.new.self) =
+    reaches_add c.loop-made.made c.in_ok-pause.pause.made first (state_of bodies c.loop-made.store) (state_of bodies c.run.new.store) term (stacks_term c.loop-made.self)
+    (stacks_term c.run.new.self) c.loop-made.invariant.ran (c.in_ok-pause.ensures.ran bodies) in
+    let stepped = rw c.in-Entered.is at c.in_ok-step_on.ensures.stepped in
+    reaches_entry made (made + 1) first (state_of bodies c.run.new.store) (state_of bodies c.step_on.new.store) term (stacks_term c.run.new.self)
+    (stacks_term c.step_on.new.self) refl both stepped.0 stepped.1
 
 pub loop-made-preserved : goal.loop-made-preserved
 loop-made-preserved g c =
     let bodies = c.args.bodies.now in
+    let first = state_of bodies c.args.store.now in
+    let term = stacks_term c.args.self.now in
     let made = c.loop-made.made + c.in_ok-pause.pause.made in
-    let both : Reaches made (state_of bodies c.args.store.now) (stacks_term c.args.self.now) (state_of bodies c.run.new.store) (stacks_term c.run.new.self) =
-    reaches_add c.loop-made.made c.in_ok-pause.pause.made (state_of bodies c.args.store.now) (state_of bodies c.loop-made.store) (state_of bodies c.run.new.store)
-    (stacks_term c.args.self.now) (stacks_term c.loop-made.self) (stacks_term c.run.new.self) c.loop-made.invariant.1 (c.in_ok-pause.ensures.ran bodies) in
-    let gone = rw c.in-Went.is at c.in_ok-stride.ensures.strode in
-    let none : EntersNone (stacks_term c.run.new.self) (stacks_term c.stride.new.self) = record { frames = omega arith; locals = omega arith } in (
-      omega (arith, c.in_ok-pause.ensures.limited),
-      reaches_more made (made + 1) (state_of bodies c.args.store.now) (state_of bodies c.run.new.store) (state_of bodies c.stride.new.store) (stacks_term c.args.self.now)
-          (stacks_term c.run.new.self) (stacks_term c.stride.new.self) refl both
-          (gone_on bodies c.run.new.store c.run.new.self c.stride.new.self c.stride.new.store gone (sym c.meets_table.ensures ∙ c.if-meets_table.false)) none,
-    )
+    let both : Reaches made first term (state_of bodies c.run.new.store) (stacks_term c.run.new.self) =
+    reaches_add c.loop-made.made c.in_ok-pause.pause.made first (state_of bodies c.loop-made.store) (state_of bodies c.run.new.store) term (stacks_term c.loop-made.self)
+    (stacks_term c.run.new.self) c.loop-made.invariant.ran (c.in_ok-pause.ensures.ran bodies) in
+    let stepped = rw c.in-Went.is at c.in_ok-step_on.ensures.stepped in
+    record {
+      few = omega (arith, c.in_ok-pause.ensures.limited);
+      ran =
+          reaches_more made (made + 1) first (state_of bodies c.run.new.store) (state_of bodies c.step_on.new.store) term (stacks_term c.run.new.self)
+          (stacks_term c.step_on.new.self) refl both stepped.0 stepped.1;
+    }
