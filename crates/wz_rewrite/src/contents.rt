@@ -36,7 +36,8 @@ pub(crate) fn global_contents<'a>(
     alloc: Global,
     sources: &Sources<'_, 'a>,
 ) -> Result<Option<Pieces<'a>>, AllocError>
-    requires { length (source_module sources.now).globals ≡ length (source_state sources.now).globals }
+    requires { length (source_module sources.now).globals
+        ≡ length (source_state sources.now).globals }
     ensures { let m = source_module sources.now in let o = source_state sources.now in
         IfOk result (λ c. c ≡ Some (MadePiece (globals_text (global_types m) o.globals) ∷ [])) }
 {

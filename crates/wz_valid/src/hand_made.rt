@@ -203,13 +203,15 @@ fn are_payloads_short(sections: &[Section<'_>]) -> bool
 }
 
 fn are_sides_short(types: &[FuncType]) -> bool
-    ensures { IsTrue result → All (λ type. IsShortList type.params × IsShortList type.results) types.now }
+    ensures { IsTrue result
+        → All (λ type. IsShortList type.params × IsShortList type.results) types.now }
 {
     types.iter().all(|kind| is_short(kind.params().len()) && is_short(kind.results().len()))
 }
 
 fn are_imports_short(imports: &[Import<'_>]) -> bool
-    ensures { IsTrue result → All (λ i. IsShortList i.«module».now × IsShortList i.name.now) imports.now }
+    ensures { IsTrue result
+        → All (λ i. IsShortList i.«module».now × IsShortList i.name.now) imports.now }
 {
     imports.iter().all(|import| is_short(import.module.len()) && is_short(import.name.len()))
 }
