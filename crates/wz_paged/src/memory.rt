@@ -121,28 +121,21 @@ fn store_inside(pages: &mut [Page], at: u64, value: u64, width: u32) -> bool
     true
 }
 
-/// Writes a number at a place, wherever it lies.
+/// Writes a number at a place of the pages, wherever it lies.
 #[cold]
 #[inline(never)]
-fn store_across(pages: &mut [Page], at: u64, value: u64, width: u32) -> Result<bool, AllocError>
+fn store_across(pages: &mut [Page], at: usize, value: u64, width: u32) -> Result<(), AllocError>
     requires width { IsAccessWidth width }
     requires bounded { length pages.old ≤ 65536 }
-    ensures within { IfOk result (λ done. IsTrue done ↔ (at + width ≤ length pages.old * 65536)) }
-    ensures stored { IfOk result (λ done. OnTrue done
-        (memory_of pages.new ≡ written (memory_of pages.old) at (bytes_of width value))) }
-    ensures outside { IfOk result (λ done. OnFalse done
-        (memory_of pages.new ≡ memory_of pages.old)) }
+    requires within { at + width ≤ length pages.old * 65536 }
+    ensures stored { OnOk result
+        (memory_of pages.new ≡ written (memory_of pages.old) at (bytes_of width value)) }
     ensures refused { OnErr result (memory_of pages.new ≡ memory_of pages.old) }
     ensures octets { AreOctets (memory_of pages.old) → AreOctets (memory_of pages.new) }
 {
-    match index_of(pages, at, u64::from(width)) {
-        Some(at) => {
-            let bytes = value.to_le_bytes();
-            pages::write(pages, at, &bytes[..width as usize])?;
-            Ok(true)
-        }
-        None => Ok(false),
-    }
+    let bytes = value.to_le_bytes();
+    pages::write(pages, at, &bytes[..width as usize])?;
+    Ok(())
 }
 
 /// Adds so many pages that have not been made.
@@ -214,7 +207,13 @@ impl Linear for PagedMemory {
         if store_inside(&mut self.pages, at, value, width) {
             return Ok(true);
         }
-        store_across(&mut self.pages, at, value, width)
+        match index_of(&self.pages, at, u64::from(width)) {
+            Some(at) => {
+                store_across(&mut self.pages, at, value, width)?;
+                Ok(true)
+            }
+            None => Ok(false),
+        }
     }
 
     fn fill(&mut self, at: u64, byte: u8, len: u64) -> Result<bool, AllocError> {
