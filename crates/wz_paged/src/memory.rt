@@ -65,41 +65,39 @@ fn load_inside(pages: &[Page], at: u64, width: u32) -> Option<u64>
 }
 
 /// Whether a number lies in one page that has not been made.
-fn is_absent_at(pages: &[Page], at: u64, width: u32) -> bool
-    requires { IsAccessWidth width }
-    ensures within { OnTrue result (at + width ≤ length pages.now * 65536) }
-    ensures zero { OnTrue result (number_of (part (memory_of pages.now) at width) ≡ 0) }
+fn is_absent_at(pages: &[Page], at: usize, width: u32) -> bool
+    requires width { IsAccessWidth width }
+    requires within { at + width ≤ length pages.now * 65536 }
+    ensures { OnTrue result (number_of (part (memory_of pages.now) at width) ≡ 0) }
 {
-    let i = (at / SIZE as u64) as usize;
-    let place = (at % SIZE as u64) as usize;
-    if i >= pages.len() || place + width as usize > SIZE {
+    if at % SIZE + width as usize > SIZE {
         return false;
     }
     // By cases, so that each is a goal of its own in the proof.
-    if pages[i].is_made() {
+    if pages[at / SIZE].is_made() {
         return false;
     }
     true
 }
 
-/// The number at a place, wherever it lies. A page that isn't made gives zero without being made.
+/// The number at a place of the pages, wherever it lies. A page that isn't made gives zero without
+/// being made.
 #[cold]
 #[inline(never)]
-fn load_across(pages: &[Page], at: u64, width: u32) -> Option<u64>
+fn load_across(pages: &[Page], at: usize, width: u32) -> u64
     requires width { IsAccessWidth width }
     requires bounded { length pages.now ≤ 65536 }
-    ensures found { SomeIff result
-        (at + width ≤ length pages.now * 65536) (number_of (part (memory_of pages.now) at width)) }
-    ensures narrow { IfSome result (λ number. number < 256 ^ width) }
+    requires within { at + width ≤ length pages.now * 65536 }
+    ensures found { result ≡ number_of (part (memory_of pages.now) at width) }
+    ensures narrow { result < 256 ^ width }
 {
     if is_absent_at(pages, at, width) {
-        return Some(0);
+        return 0;
     }
-    let at = index_of(pages, at, u64::from(width))?;
     let mut bytes = [0; 8];
     let out = &mut bytes[..width as usize];
     pages::read(pages, at, out);
-    Some(number_at(out, 0, width))
+    number_at(out, 0, width)
 }
 
 /// Writes a number at a place, where it lies in one page that has been made.
@@ -123,28 +121,21 @@ fn store_inside(pages: &mut [Page], at: u64, value: u64, width: u32) -> bool
     true
 }
 
-/// Writes a number at a place, wherever it lies.
+/// Writes a number at a place of the pages, wherever it lies.
 #[cold]
 #[inline(never)]
-fn store_across(pages: &mut [Page], at: u64, value: u64, width: u32) -> Result<bool, AllocError>
+fn store_across(pages: &mut [Page], at: usize, value: u64, width: u32) -> Result<(), AllocError>
     requires width { IsAccessWidth width }
     requires bounded { length pages.old ≤ 65536 }
-    ensures within { IfOk result (λ done. IsTrue done ↔ (at + width ≤ length pages.old * 65536)) }
-    ensures stored { IfOk result (λ done. OnTrue done
-        (memory_of pages.new ≡ written (memory_of pages.old) at (bytes_of width value))) }
-    ensures outside { IfOk result (λ done. OnFalse done
-        (memory_of pages.new ≡ memory_of pages.old)) }
+    requires within { at + width ≤ length pages.old * 65536 }
+    ensures stored { OnOk result
+        (memory_of pages.new ≡ written (memory_of pages.old) at (bytes_of width value)) }
     ensures refused { OnErr result (memory_of pages.new ≡ memory_of pages.old) }
     ensures octets { AreOctets (memory_of pages.old) → AreOctets (memory_of pages.new) }
 {
-    match index_of(pages, at, u64::from(width)) {
-        Some(at) => {
-            let bytes = value.to_le_bytes();
-            pages::write(pages, at, &bytes[..width as usize])?;
-            Ok(true)
-        }
-        None => Ok(false),
-    }
+    let bytes = value.to_le_bytes();
+    pages::write(pages, at, &bytes[..width as usize])?;
+    Ok(())
 }
 
 /// Adds so many pages that have not been made.
@@ -202,10 +193,13 @@ impl Linear for PagedMemory {
 
     #[inline]
     fn load(&self, at: u64, width: u32) -> Option<u64> {
-        match load_inside(&self.pages, at, width) {
-            Some(number) => Some(number),
-            None => load_across(&self.pages, at, width),
+        // Each exit says itself whether there is a number. Were that the answer of the call that is
+        // out of line, the caller's own cases would test it again after every load.
+        if let Some(number) = load_inside(&self.pages, at, width) {
+            return Some(number);
         }
+        let at = index_of(&self.pages, at, u64::from(width))?;
+        Some(load_across(&self.pages, at, width))
     }
 
     #[inline]
@@ -213,7 +207,13 @@ impl Linear for PagedMemory {
         if store_inside(&mut self.pages, at, value, width) {
             return Ok(true);
         }
-        store_across(&mut self.pages, at, value, width)
+        match index_of(&self.pages, at, u64::from(width)) {
+            Some(at) => {
+                store_across(&mut self.pages, at, value, width)?;
+                Ok(true)
+            }
+            None => Ok(false),
+        }
     }
 
     fn fill(&mut self, at: u64, byte: u8, len: u64) -> Result<bool, AllocError> {

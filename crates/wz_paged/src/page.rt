@@ -8,7 +8,7 @@ ghost use Rattle.wz_paged.specs.Pages.{memory_of_page};
 
 use std::alloc::{AllocError, Global};
 use std::marker::Model;
-use wz_linear::{PAGE_SIZE, fill_range, number_at, put_number, put_slice};
+use wz_linear::{PAGE_SIZE, fill_range, number_at, put_slice};
 
 /// The bytes of a page, or none: a page that has not been made holds zeros.
 #[derive(Drop)]
@@ -222,7 +222,8 @@ fn copy_in(bytes: &mut Vec<u8>, to: usize, from: usize, count: usize)
     bytes.copy_within(from..from + count, to);
 }
 
-/// Writes the lowest bytes of a number into a vector that has places for them.
+/// Writes the lowest bytes of a number into a vector that has places for them: each width as one
+/// piece of a length that is known, which becomes one move.
 #[inline]
 fn put_number_in(bytes: &mut Vec<u8>, at: usize, value: u64, width: u32)
     requires width { IsAccessWidth width }
@@ -230,7 +231,13 @@ fn put_number_in(bytes: &mut Vec<u8>, at: usize, value: u64, width: u32)
     ensures written { bytes.new.items ≡ written bytes.old.items at (bytes_of width value) }
     ensures kept { length bytes.new.items ≡ length bytes.old.items }
 {
-    put_number(bytes, at, value, width);
+    let all = value.to_le_bytes();
+    match width {
+        1 => put_in(bytes, at, &all[..1]),
+        2 => put_in(bytes, at, &all[..2]),
+        4 => put_in(bytes, at, &all[..4]),
+        _ => put_in(bytes, at, &all),
+    }
 }
 
 /// Whether all bytes are zero.
