@@ -1,6 +1,6 @@
 -- What instantiation makes of a valid module is typed.
-use Rattle.std.proofs.Common.{◌≡◌, ℕ, ◌+◌, ◌-◌, ◌*◌, ◌^◌, ◌<◌, ◌≤◌, nat_le, List, [], ◌∷◌, Option, Some, None, Bool, true, false, ◌&&◌, if◌then◌else◌, IsSomeAnd, length, map, get_or, take, drop, replicate, slice_get, option_map, refl, sym, ap, subst, ◌∙◌, arith}
-use Rattle.std.specs.List.{All, sum_by}
+use Rattle.std.proofs.Common.{◌≡◌, ℕ, ◌+◌, ◌*◌, ◌^◌, ◌<◌, ◌≤◌, nat_le, List, [], ◌∷◌, Option, Some, None, Bool, true, false, ◌&&◌, if◌then◌else◌, IsSomeAnd, length, map, get_or, drop, slice_get, option_map, refl, sym, ap, subst, arith}
+use Rattle.std.specs.List.{All}
 use Rattle.std.proofs.lemmas.Bool.{and_parts, leb-true}
 use Rattle.std.proofs.lemmas.List.{length-take, length-replicate}
 use Rattle.std.proofs.lemmas.List.Elements.{All-map}
@@ -30,8 +30,8 @@ use Rattle.wz_valid.specs.Indices.{all_functions}
 use Rattle.wz_valid.specs.Contexts.{context_of}
 use Rattle.wz_valid.specs.Items.{IsElemOk}
 use Rattle.wz_valid.specs.Validity.{IsValid}
-use Rattle.wz_valid.specs.Profile.{IsInProfile, pages_limit}
-use Rattle.wz_store.specs.State.{Global, Table, Memory, Element, pages_of, page_size}
+use Rattle.wz_valid.specs.Profile.{IsInProfile}
+use Rattle.wz_store.specs.State.{Table, Memory, Element, pages_of, page_size}
 use Rattle.wz_store.specs.Changes.{Change, WriteTable, WriteMemory, EmptyElement, EmptyData, range_of, applied}
 use Rattle.wz_store.specs.Made.{new_table, new_memory, new_element}
 use Rattle.wz_bulk.specs.Effects.{BulkEffect, Makes, Aborts, Misfits, within}

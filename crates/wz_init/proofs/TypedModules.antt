@@ -1,11 +1,10 @@
 -- A state that has a valid module's parts has its context too, and its functions are typed in it.
-use Rattle.std.proofs.Common.{◌≡◌, ℕ, zero, suc, ◌+◌, ◌<◌, ◌++◌, ◌==◌, List, [], ◌∷◌, Option, Some, None, IsSome, IsSomeAnd, IsTrue, length, map, get_or, slice_get, option_map, refl, sym, ap, subst, ◌∙◌, arith, eq-eqb}
+use Rattle.std.proofs.Common.{◌≡◌, ℕ, zero, suc, ◌+◌, ◌<◌, ◌++◌, ◌==◌, List, [], ◌∷◌, Option, Some, None, IsSomeAnd, IsTrue, length, map, get_or, slice_get, refl, sym, ap, subst, ◌∙◌, arith, eq-eqb}
 use Rattle.std.specs.List.{All}
 use Rattle.std.proofs.lemmas.List.Elements.{All-nil, All-cons, All-head, All-tail, All-append, All-map}
 use Rattle.std.proofs.lemmas.List.Folds.{list_any_at}
 use Rattle.std.proofs.Math.ListN.{length-map}
 use Rattle.wz_types.specs.declared.types.ValType.{ValType}
-use Rattle.wz_types.specs.declared.types.RefKind.{RefKind}
 use Rattle.wz_types.specs.declared.types.GlobalType.{GlobalType}
 use Rattle.wz_types.specs.declared.types.TableType.{TableType}
 use Rattle.wz_types.specs.declared.types.MemType.{MemType}
@@ -18,7 +17,7 @@ use Rattle.wz_module.specs.Imports.{Import}
 use Rattle.wz_module.specs.Functions.{BodyTree}
 use Rattle.wz_module.specs.Globals.{GlobalDef}
 use Rattle.wz_module.specs.Module.{Module}
-use Rattle.wz_valid_code.specs.Context.{TypingContext, has_number, locals_of_runs}
+use Rattle.wz_valid_code.specs.Context.{has_number, locals_of_runs}
 use Rattle.wz_valid_code.specs.Laws.{Serves}
 use Rattle.wz_valid_code.proofs.LawLemmas.{typing_serves}
 use Rattle.wz_valid.specs.Indices.{function_import, imported_functions, all_functions}
@@ -30,7 +29,7 @@ use Rattle.wz_valid.specs.Laws.{TypesAreThere, BodiesAreTyped, DeclaredAreThere}
 use Rattle.wz_store.specs.State.{Memory}
 use Rattle.wz_store.specs.declared.function.Function.{Function}
 use Rattle.wz_store.specs.declared.function.Function.TheVariants as stored
-use Rattle.wz_machine.specs.State.{State, LastingParts, lasting_parts, FunctionBody, ImportedBody, FunctionInstance}
+use Rattle.wz_machine.specs.State.{State, LastingParts, lasting_parts, ImportedBody, FunctionInstance}
 use Rattle.wz_machine.specs.TypedState.{numbers_from, state_context, HasType, BodyTyped, FunctionTyped}
 use Rattle.wz_machine.specs.TypedTerms.{scope_with}
 use Rattle.wz_init.specs.Functions.{import_function, import_functions, own_functions, stored_functions, body_of_tree, function_in, functions_in}

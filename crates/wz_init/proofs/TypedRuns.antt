@@ -1,6 +1,5 @@
 -- A run of a typed state keeps it typed, and each of its steps has a rule.
-use Rattle.std.proofs.Common.{◌≡◌, ℕ, zero, suc, ◌+◌, ◌^◌, ◌<◌, ◌≤◌, nat_le, nat_lt, List, [], ◌∷◌, ◌++◌, Option, Some, None, Bool, true, false, if◌then◌else◌, IsSomeAnd, IsTrue, length, slice_get, option_map, refl, sym, ap, subst, ◌∙◌, arith, leb-true, lt-ltb}
-use Rattle.std.specs.List.{All}
+use Rattle.std.proofs.Common.{◌≡◌, ℕ, zero, suc, ◌+◌, ◌^◌, ◌≤◌, nat_lt, List, [], ◌∷◌, ◌++◌, Option, Some, None, Bool, true, false, if◌then◌else◌, IsSomeAnd, IsTrue, slice_get, option_map, refl, sym, ap, subst, ◌∙◌, arith, leb-true, lt-ltb}
 use Rattle.std.proofs.lemmas.Option.{slice_get-map}
 use Rattle.wz_types.specs.declared.types.ValType.{ValType}
 use Rattle.wz_types.specs.declared.types.ValType.TheVariants as valtype
@@ -10,14 +9,12 @@ use Rattle.wz_types.specs.declared.value.Value.{Value}
 use Rattle.wz_types.specs.declared.value.Value.TheVariants.{I32, I64, F32, F64, Ref}
 use Rattle.wz_types.specs.FunctionType.{FunctionType}
 use Rattle.wz_module.specs.Module.{Module}
-use Rattle.wz_valid_code.specs.Context.{TypingContext, function_type}
-use Rattle.wz_valid.specs.Contexts.{context_of}
-use Rattle.wz_valid.specs.Items.{IsGlobalOk, IsElemOk}
+use Rattle.wz_valid_code.specs.Context.{TypingContext}
 use Rattle.wz_valid.specs.Validity.{IsValid}
 use Rattle.wz_valid.specs.Profile.{IsInProfile, pages_limit}
 use Rattle.wz_valid.specs.Indices.{all_functions}
 use Rattle.wz_valid.specs.Laws.{StartTakesNothing, GlobalsAreOk, ElementsAreOk}
-use Rattle.wz_store.specs.State.{Global, Table, Memory, Element, pages_of}
+use Rattle.wz_store.specs.State.{Memory, pages_of}
 use Rattle.wz_store.specs.Changes.{Change, Nothing, GrowMemory, applied}
 use Rattle.wz_machine.specs.declared.questions.HostTarget.TheVariants as target
 use Rattle.wz_machine.specs.State.{State, LastingParts, lasting_parts, FunctionBody, OwnBody, ImportedBody, NoBody, FunctionInstance, callable_of, callable_from, callable_at}
@@ -31,7 +28,7 @@ use Rattle.wz_machine.specs.Frames.{frame_count, local_count}
 use Rattle.wz_machine.specs.Entered.{entered}
 use Rattle.wz_machine.specs.Replies.{put, takes_values}
 use Rattle.wz_machine.specs.TypedState.{state_context, HasType, BodyTyped}
-use Rattle.wz_machine.specs.TypedTerms.{IsStandingTyped, IsWaitingTyped}
+use Rattle.wz_machine.specs.TypedTerms.{IsStandingTyped}
 use Rattle.wz_machine.specs.TypedSteps.{IsChangeTyped, IsAnswerTyped}
 use Rattle.wz_machine.specs.TypedLaws.{ChangeKeepsTyping, EntryIsTyped, StepKeepsTyping}
 use Rattle.wz_machine.specs.Laws.{ContextLasts}
@@ -45,14 +42,14 @@ use Rattle.wz_init.specs.Functions.{functions_in}
 use Rattle.wz_init.specs.Instances.{Instance, ElementUnfit, DataUnfit, NoInstance, Fresh}
 use Rattle.wz_init.specs.Instantiation.{fresh}
 use Rattle.wz_init.specs.Orders.{IsPlainFunction, IsPlainWhereGiven, IsRunnable}
-use Rattle.wz_init.specs.Reached.{IsOwnReference, IsOwn, AreOwnReferences, lasting_of}
+use Rattle.wz_init.specs.Reached.{IsOwn, AreOwnReferences, lasting_of}
 use Rattle.wz_init.specs.Run.{Stop, FuelIsSpent, TableWouldChange, FramesAreTooMany, LocalsAreTooMany, Trapped, NoRuleFits, FloatIsAsked, ImportIsCalled, RunEnd, Returned, Stopped, frames_limit, all_locals_limit, too_much, within_limits, pages_together, is_granted, growth_change, pages_at, growth_value, run_question, run_on, run_from, run_standing, run}
 use Rattle.wz_init.specs.Ready.{Ready, Reached, StoppedIn, UnfitElement, UnfitData, NeverMade, phase_of, phases, phase_end, phases_run, ready_from, ready}
 use Rattle.wz_init.specs.Typed.{DatasHoldBytes, FreshIsTyped, RunIsTyped, RunIsNeverStuck}
 use Rattle.wz_init.proofs.FreshLemmas.{was_allocated}
 use Rattle.wz_init.proofs.FirstLemmas.{IsFirst, was_first, was_lasting, some_state, segments_first}
 use Rattle.wz_init.proofs.LawLemmas.{memories_ok}
-use Rattle.wz_init.proofs.SmallLemmas.{signatures, type_at, type_in}
+use Rattle.wz_init.proofs.SmallLemmas.{type_at, type_in}
 use Rattle.wz_init.proofs.TypedModules.{FunctionLaws, functions_by}
 use Rattle.wz_init.proofs.TypedFresh.{IsSelfTyped, IsInstanceTyped, pages_at_most, allocated_typed, segments_run_typed}
 
