@@ -19,7 +19,7 @@ use Rattle.wz_module.specs.Elements.{ElemMode, PassiveElem, ActiveElem, Declarat
 use Rattle.wz_module.specs.Datas.{DataMode, PassiveData, ActiveData, DataSegment}
 use Rattle.wz_module.specs.Module.{Module}
 use Rattle.wz_valid.specs.Profile.{pages_limit, IsInProfile}
-use Rattle.wz_store.specs.State.{Global, Table, Memory, Element, pages_of, page_size}
+use Rattle.wz_store.specs.State.{Global, Table, Memory, Element, pages_of, page_size, pages_together}
 use Rattle.wz_store.specs.Changes.{Change, Nothing, SetGlobal, WriteTable, WriteMemory, GrowTable, GrowMemory, EmptyElement, EmptyData, altered, range_of, with_entries, without_items, applied}
 use Rattle.wz_store.specs.Made.{new_global, new_table, new_memory, new_element}
 use Rattle.wz_store.proofs.ChangeLemmas.{get-altered}
@@ -55,7 +55,6 @@ use Rattle.wz_valid.specs.Limits.{IsMemoryOk}
 use Rattle.wz_init.proofs.MaximaLemmas.{new_within}
 use Rattle.wz_init.proofs.LeftLemmas.{segments_kept, same_pages, same_maxima, phases_left}
 use Rattle.wz_init.proofs.FineLemmas.{part_short}
-use Rattle.wz_init.specs.Run.{pages_together}
 use Rattle.wz_linear.specs.Bytes.{part}
 use Rattle.wz_types.specs.declared.trap.TrapKind.TheVariants.{TableBounds}
 use Rattle.wz_init.specs.Reached.{IsOwn, IsOwnReference, AreOwnReferences, GlobalsFit, HasSegmentsOf, AreWithinMaxima, IsLeftOf, IsReachedOf, lasting_of}

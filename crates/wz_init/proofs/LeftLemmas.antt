@@ -10,7 +10,7 @@ use Rattle.wz_types.specs.declared.value.Value.TheVariants.{I32}
 use Rattle.wz_types.specs.Fits.{Fits}
 use Rattle.wz_linear.specs.Bytes.{written}
 use Rattle.wz_valid.specs.Profile.{pages_limit}
-use Rattle.wz_store.specs.State.{Global, Table, Memory, Element, pages_of, page_size}
+use Rattle.wz_store.specs.State.{Global, Table, Memory, Element, pages_of, page_size, pages_together}
 use Rattle.wz_store.specs.Changes.{Change, Nothing, SetGlobal, WriteTable, WriteMemory, GrowTable, GrowMemory, EmptyElement, EmptyData, altered, with_content, with_bytes, with_more_pages, without_items, applied}
 use Rattle.wz_store.proofs.ChangeLemmas.{get-altered}
 use Rattle.wz_machine.specs.declared.questions.HostTarget.TheVariants as target
@@ -25,7 +25,7 @@ use Rattle.wz_machine.specs.Entered.{entered, entered_callable, entered_body}
 use Rattle.wz_machine.specs.Replies.{put, put_inside}
 use Rattle.wz_machine.proofs.ChangeLemmas.{change_keeps}
 use Rattle.wz_machine.specs.Advance.{head_changes_table}
-use Rattle.wz_init.specs.Run.{Stop, RunEnd, Returned, Stopped, too_much, within_limits, TableWouldChange, pages_together, is_granted, growth_change, growth_value, pages_at, run_question, run_on, run_from, run_standing, run}
+use Rattle.wz_init.specs.Run.{Stop, RunEnd, Returned, Stopped, too_much, within_limits, TableWouldChange, is_granted, growth_change, growth_value, pages_at, run_question, run_on, run_from, run_standing, run}
 use Rattle.wz_init.specs.declared.order.Phase.{Phase}
 use Rattle.wz_init.specs.Ready.{Ready, Reached, phase_end, phases_run}
 use Rattle.wz_init.specs.Reached.{IsOwn, AreOwn, InsideOwn, TermOwn, AreOwnReferences, HoldsOwn, GlobalsFit, HasSegmentsOf, AreWithinMaxima, IsLeftOf}

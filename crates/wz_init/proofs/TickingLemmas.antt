@@ -4,7 +4,7 @@ use Rattle.std.proofs.lemmas.Option.{none-some, slice_get_within, get_or_from_sl
 use Rattle.std.proofs.lemmas.List.Sums.{sum_by_more}
 use Rattle.wz_types.specs.declared.types.MemType.{MemType}
 use Rattle.wz_code.specs.BodyParts.{BodyParts}
-use Rattle.wz_store.specs.State.{Memory, pages_of, memory_type_of}
+use Rattle.wz_store.specs.State.{Memory, pages_of, memory_type_of, pages_together}
 use Rattle.wz_store.specs.Made.{StoreState}
 use Rattle.wz_store.specs.Changes.{applied}
 use Rattle.wz_machine.specs.declared.answers.Tick.{Tick}
@@ -20,7 +20,6 @@ use Rattle.wz_machine.specs.Machines.{MachineParts, machine_state, machine_stack
 use Rattle.wz_machine.specs.Laws.{ChangeReachesState}
 use Rattle.wz_machine.specs.declared.advance.Advance.{Advance}
 use Rattle.wz_machine.specs.Advance.{IsAdvance, StackAdvanced}
-use Rattle.wz_init.specs.Run.{pages_together}
 use Rattle.wz_init.specs.Turns.{top_term, IsAlone, IsTicked, HasGone, HasAdvanced}
 use Rattle.wz_init.specs.Events.{turned_by}
 

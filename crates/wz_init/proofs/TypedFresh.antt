@@ -31,7 +31,7 @@ use Rattle.wz_valid.specs.Contexts.{context_of}
 use Rattle.wz_valid.specs.Items.{IsElemOk}
 use Rattle.wz_valid.specs.Validity.{IsValid}
 use Rattle.wz_valid.specs.Profile.{IsInProfile}
-use Rattle.wz_store.specs.State.{Table, Memory, Element, pages_of, page_size}
+use Rattle.wz_store.specs.State.{Table, Memory, Element, pages_of, page_size, pages_together}
 use Rattle.wz_store.specs.Changes.{Change, WriteTable, WriteMemory, EmptyElement, EmptyData, range_of, applied}
 use Rattle.wz_store.specs.Made.{new_table, new_memory, new_element}
 use Rattle.wz_bulk.specs.Effects.{BulkEffect, Makes, Aborts, Misfits, within}
@@ -47,7 +47,6 @@ use Rattle.wz_init.specs.Constants.{constant_value, constant_reference, constant
 use Rattle.wz_init.specs.Allocation.{each_of, first_element}
 use Rattle.wz_init.specs.Instances.{Instance, ElementUnfit, DataUnfit, NoInstance, Fresh, instance_then}
 use Rattle.wz_init.specs.Instantiation.{copied, element_copied, element_run, elements_run, data_copied, data_run, datas_run, segments_run}
-use Rattle.wz_init.specs.Run.{pages_together}
 use Rattle.wz_init.specs.Reached.{lasting_of}
 use Rattle.wz_init.specs.Typed.{DatasHoldBytes}
 use Rattle.wz_init.proofs.ModuleLemmas.{reads_none}

@@ -14,7 +14,7 @@ use Rattle.wz_valid.specs.Validity.{IsValid}
 use Rattle.wz_valid.specs.Profile.{IsInProfile, pages_limit}
 use Rattle.wz_valid.specs.Indices.{all_functions}
 use Rattle.wz_valid.specs.Laws.{StartTakesNothing, GlobalsAreOk, ElementsAreOk}
-use Rattle.wz_store.specs.State.{Memory, pages_of}
+use Rattle.wz_store.specs.State.{Memory, pages_of, pages_together}
 use Rattle.wz_store.specs.Changes.{Change, Nothing, GrowMemory, applied}
 use Rattle.wz_machine.specs.declared.questions.HostTarget.TheVariants as target
 use Rattle.wz_machine.specs.State.{State, LastingParts, lasting_parts, FunctionBody, OwnBody, ImportedBody, NoBody, FunctionInstance, callable_of, callable_from, callable_at}
@@ -43,7 +43,7 @@ use Rattle.wz_init.specs.Instances.{Instance, ElementUnfit, DataUnfit, NoInstanc
 use Rattle.wz_init.specs.Instantiation.{fresh}
 use Rattle.wz_init.specs.Orders.{IsPlainFunction, IsPlainWhereGiven, IsRunnable}
 use Rattle.wz_init.specs.Reached.{IsOwn, AreOwnReferences, lasting_of}
-use Rattle.wz_init.specs.Run.{Stop, FuelIsSpent, TableWouldChange, FramesAreTooMany, LocalsAreTooMany, Trapped, NoRuleFits, FloatIsAsked, ImportIsCalled, RunEnd, Returned, Stopped, frames_limit, all_locals_limit, too_much, within_limits, pages_together, is_granted, growth_change, pages_at, growth_value, run_question, run_on, run_from, run_standing, run}
+use Rattle.wz_init.specs.Run.{Stop, FuelIsSpent, TableWouldChange, FramesAreTooMany, LocalsAreTooMany, Trapped, NoRuleFits, FloatIsAsked, ImportIsCalled, RunEnd, Returned, Stopped, frames_limit, all_locals_limit, too_much, within_limits, is_granted, growth_change, pages_at, growth_value, run_question, run_on, run_from, run_standing, run}
 use Rattle.wz_init.specs.Ready.{Ready, Reached, StoppedIn, UnfitElement, UnfitData, NeverMade, phase_of, phases, phase_end, phases_run, ready_from, ready}
 use Rattle.wz_init.specs.Typed.{DatasHoldBytes, FreshIsTyped, RunIsTyped, RunIsNeverStuck}
 use Rattle.wz_init.proofs.FreshLemmas.{was_allocated}

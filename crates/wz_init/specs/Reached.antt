@@ -7,7 +7,7 @@ use Rattle.wz_types.specs.declared.value.Value.{Value}
 use Rattle.wz_types.specs.declared.value.Value.TheVariants.{I32, I64, F32, F64, Ref}
 use Rattle.wz_types.specs.Fits.{Fits}
 use Rattle.wz_valid.specs.Profile.{pages_limit}
-use Rattle.wz_store.specs.State.{Global, Table, Memory, Element, pages_of}
+use Rattle.wz_store.specs.State.{Global, Table, Memory, Element, pages_of, pages_together}
 use Rattle.wz_machine.specs.State.{State, LastingParts, lasting_parts}
 use Rattle.wz_machine.specs.Terms.{Inside, Innermost, InLabel, InFrame, Term, Frame, BareValues}
 use Rattle.wz_module.specs.Module.{Module}
@@ -15,7 +15,6 @@ use Rattle.wz_init.specs.Functions.{functions_in}
 use Rattle.wz_init.specs.Allocation.{allocated}
 use Rattle.wz_init.specs.Instances.{Instance}
 use Rattle.wz_init.specs.Instantiation.{fresh}
-use Rattle.wz_init.specs.Run.{pages_together}
 
 -- ---- references of the instance's own: null, and its functions
 

@@ -1,13 +1,12 @@
 -- The run of one function by steps of section 4.4 of the Core Specification, with fuel and limits, which are the tool's own. A tick is
 -- one step. The fuel that is left and the ticks that were made go along, so that the next run goes on with them.
 use Rattle.std.specs.Prelude.{ℕ, zero, suc, ◌+◌, nat_le, nat_lt, List, [], ◌∷◌, Option, Some, None, Bool, true, false, if◌then◌else◌, slice_get}
-use Rattle.std.specs.List.{sum_by}
 use Rattle.wz_types.specs.declared.trap.TrapKind.{TrapKind}
 use Rattle.wz_types.specs.declared.value.Value.{Value}
 use Rattle.wz_types.specs.declared.value.Value.TheVariants.{I32}
 use Rattle.wz_code.specs.declared.numeric.NumOp.{NumOp}
 use Rattle.wz_valid.specs.Profile.{pages_limit}
-use Rattle.wz_store.specs.State.{Memory, pages_of}
+use Rattle.wz_store.specs.State.{Memory, pages_of, pages_together}
 use Rattle.wz_store.specs.Changes.{Change, Nothing, GrowMemory, applied}
 use Rattle.wz_machine.specs.declared.questions.HostTarget.TheVariants as target
 use Rattle.wz_machine.specs.State.{State}
@@ -56,9 +55,6 @@ within_limits on term None = on term
 within_limits on term (Some stop) = Stopped stop
 
 -- ---- growth of a memory, which is asked for within the memory's own limits alone
-
-abbrev pub pages_together : List Memory → ℕ
-pages_together memories = sum_by pages_of memories
 
 -- it is granted where all memories together stay within the limit
 abbrev pub is_granted : State → ℕ → Bool

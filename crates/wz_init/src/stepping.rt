@@ -9,7 +9,8 @@ ghost use Rattle.wz_machine.specs.Advance.{head_changes_table};
 ghost use Rattle.wz_machine.specs.Frames.{frame_count, local_count};
 ghost use Rattle.wz_machine.specs.Replies.{put};
 ghost use Rattle.wz_store.specs.Changes.{applied};
-ghost use Rattle.wz_init.specs.Run.{pages_together, is_granted, growth_change, growth_value};
+ghost use Rattle.wz_init.specs.Run.{is_granted, growth_change, growth_value};
+ghost use Rattle.wz_store.specs.State.{pages_together};
 ghost use Rattle.wz_init.specs.Turns.{top_term, IsAlone, IsEntered, IsTicked, IsAskedHere};
 ghost use Rattle.wz_init.specs.Turns.{HasAdvanced, TakesNothing};
 

@@ -4,8 +4,7 @@ use Rattle.std.specs.Bool.{OnTrue}
 use Rattle.std.specs.Option.{option_map}
 use Rattle.std.proofs.lemmas.Bool.{cases_Bool, leb-true}
 use Rattle.wz_types.specs.declared.types.MemType.{MemType}
-use Rattle.wz_store.specs.State.{Memory, memory_type_of}
-use Rattle.wz_snapshot.specs.Recorded.{pages_together}
+use Rattle.wz_store.specs.State.{Memory, memory_type_of, pages_together}
 use Rattle.wz_snapshot.proofs.ListLemmas.{some-inj}
 
 -- there is no memory

@@ -3,7 +3,7 @@
 ghost use Rattle.std.specs.Prelude.{◌≡◌, ◌≢◌, ◌≤◌, length, AllPairs, IfOk};
 ghost use Rattle.std.specs.Bool.{OnTrue};
 ghost use Rattle.wz_words.specs.Settings.{settings_of};
-ghost use Rattle.wz_snapshot.specs.Recorded.{pages_together};
+ghost use Rattle.wz_store.specs.State.{pages_together};
 
 use crate::sources::lacks;
 use crate::{Output, Piece, laws, prepare};

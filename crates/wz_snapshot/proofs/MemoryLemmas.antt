@@ -4,9 +4,9 @@ use Rattle.std.proofs.Common.{drop-cons, add-one}
 use Rattle.std.proofs.lemmas.List.Sums.{get_or-le-sum_by}
 use Rattle.std.proofs.lemmas.Option.{slice_get_cases}
 use Rattle.std.specs.Option.{option_map}
-use Rattle.wz_store.specs.State.{Memory, pages_of}
+use Rattle.wz_store.specs.State.{Memory, pages_of, pages_together}
 use Rattle.wz_snapshot.specs.declared.segment.ChosenSegment.{ChosenSegment}
-use Rattle.wz_snapshot.specs.Recorded.{chosen_in, chosen_from, pages_together}
+use Rattle.wz_snapshot.specs.Recorded.{chosen_in, chosen_from}
 use Rattle.wz_snapshot.proofs.ListLemmas.{some-inj}
 
 -- the memory that is read

@@ -2,7 +2,6 @@
 -- Specification 2.0), sizes of memories (4.2.8), and which segments are empty (4.2.10 and 4.2.11). Which ranges of the memories
 -- become data segments is this tool's own rule.
 use Rattle.std.specs.Prelude.{ℕ, ◌+◌, ◌/◌, ◌==◌, Bool, List, [], ◌∷◌, ◌++◌, length, map}
-use Rattle.std.specs.List.{sum_by}
 use Rattle.wz_types.specs.declared.value.Value.{Value}
 use Rattle.wz_plan.specs.declared.runs.Run.{Run}
 use Rattle.wz_plan.specs.Plan.{plan}
@@ -57,7 +56,3 @@ recorded s = record {
   empty_elements = map (λ element. has_no_items element.items) s.elements;
   empty_data = map has_no_items s.datas;
 }
-
--- the pages of all memories together
-abbrev pub pages_together : List Memory → ℕ
-pages_together memories = sum_by pages_of memories

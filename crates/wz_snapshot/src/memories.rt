@@ -3,7 +3,7 @@
 ghost use Rattle.std.specs.Prelude.{◌≡◌, ◌+◌, ◌*◌, ◌/◌, ◌^◌, ◌≤◌, ◌++◌, length, map, IfOk, OnOk};
 ghost use Rattle.wz_plan.specs.Scanned.{found_in};
 ghost use Rattle.wz_snapshot.specs.Recorded.{chosen_segment, chosen_in, chosen_segments};
-ghost use Rattle.wz_snapshot.specs.Recorded.{pages_together};
+ghost use Rattle.wz_store.specs.State.{pages_together};
 ghost use Rattle.wz_snapshot.specs.Scanning.{IsScannedTo};
 
 use crate::segment::ChosenSegment;

@@ -1,7 +1,8 @@
 //! The snapshot of a state.
 
 ghost use Rattle.std.specs.Prelude.{◌≡◌, ◌≤◌, length, IfOk};
-ghost use Rattle.wz_snapshot.specs.Recorded.{recorded, pages_together};
+ghost use Rattle.wz_snapshot.specs.Recorded.{recorded};
+ghost use Rattle.wz_store.specs.State.{pages_together};
 
 use crate::memories::planned_segments;
 use crate::parts::{empty_data, empty_elements, global_values, memory_pages};

@@ -2,6 +2,7 @@
 -- WebAssembly Core Specification 2.0, sections 4.2.3 and 4.2.5 to 4.2.11 (store and instances), without addresses, since
 -- all belongs to one module, and without minima, since a table's and a memory's minimum is its present size.
 use Rattle.std.specs.Prelude.{ℕ, ◌/◌, List, length, Option}
+use Rattle.std.specs.List.{sum_by}
 use Rattle.wz_types.specs.declared.types.RefKind.{RefKind}
 use Rattle.wz_types.specs.declared.types.GlobalType.{GlobalType}
 use Rattle.wz_types.specs.declared.types.Limits.{Limits}
@@ -46,6 +47,10 @@ page_size = 65536
 
 abbrev pub pages_of : Memory → ℕ
 pages_of memory = length memory.bytes / page_size
+
+-- the pages of all memories together
+abbrev pub pages_together : List Memory → ℕ
+pages_together memories = sum_by pages_of memories
 
 abbrev pub present_limits : ℕ → Option ℕ → Limits
 present_limits size maximum = record { min = size; max = maximum }

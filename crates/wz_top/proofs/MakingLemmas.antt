@@ -6,7 +6,8 @@ use Rattle.wz_module.specs.Module.{Module}
 use Rattle.wz_words.specs.Settings.{Settings}
 use Rattle.wz_store.specs.Made.{StoreState}
 use Rattle.wz_machine.specs.State.{State}
-use Rattle.wz_snapshot.specs.Recorded.{chosen_segments, pages_together}
+use Rattle.wz_snapshot.specs.Recorded.{chosen_segments}
+use Rattle.wz_store.specs.State.{pages_together}
 use Rattle.wz_exports.specs.Kept.{KeptExports}
 use Rattle.wz_init.specs.States.{state_in}
 use Rattle.wz_rewrite.specs.Output.{rewritten}

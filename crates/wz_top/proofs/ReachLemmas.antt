@@ -23,10 +23,10 @@ use Rattle.wz_valid.specs.Validity.{IsValid}
 use Rattle.wz_valid.specs.Profile.{IsInProfile}
 use Rattle.wz_store.specs.declared.function.Function.{Function}
 use Rattle.wz_store.specs.declared.function.Function.TheVariants as stored
-use Rattle.wz_store.specs.State.{Global, Memory, pages_of}
+use Rattle.wz_store.specs.State.{Global, Memory, pages_of, pages_together}
 use Rattle.wz_store.specs.Made.{StoreState}
 use Rattle.wz_snapshot.specs.declared.segment.ChosenSegment.{ChosenSegment}
-use Rattle.wz_snapshot.specs.Recorded.{chosen_segments, pages_together, recorded}
+use Rattle.wz_snapshot.specs.Recorded.{chosen_segments, recorded}
 use Rattle.wz_snapshot.specs.Laws.{ChosenAreFew, ChosenAreRanges, IsRangeOf}
 use Rattle.wz_machine.specs.State.{State, FunctionInstance, FunctionBody, ImportedBody, callable_of, callable_from, LastingParts}
 use Rattle.wz_machine.specs.Entered.{entered_callable}

@@ -14,7 +14,8 @@ use Rattle.wz_words.specs.Settings.{Settings}
 use Rattle.wz_exports.specs.Kept.{KeptExports, kept}
 use Rattle.wz_exports.specs.declared.fault.ExportFault.{ExportFault}
 use Rattle.wz_exports.specs.declared.fault.ExportFault.TheVariants as export
-use Rattle.wz_snapshot.specs.Recorded.{chosen_segments, pages_together}
+use Rattle.wz_snapshot.specs.Recorded.{chosen_segments}
+use Rattle.wz_store.specs.State.{pages_together}
 use Rattle.wz_machine.specs.State.{State}
 use Rattle.wz_init.specs.declared.order.RunOrder.{RunOrder}
 use Rattle.wz_init.specs.declared.order.Phase.{Phase}

@@ -1,5 +1,5 @@
 use Rattle.std.proofs.Common.{◌≡◌, ◌+◌, ◌<◌, length, take, sym, arith}
-use Rattle.wz_init.specs.Run.{pages_together}
+use Rattle.wz_store.specs.State.{pages_together}
 use Rattle.wz_init.proofs.TickingLemmas.{pages_more, memory_there}
 use Rattle.wz_init.proofs.ticking.pages.Goals as goal
 use Rattle.wz_init.proofs.ticking.pages.Goals.{in-Some, in-None}

@@ -1,5 +1,5 @@
 use Rattle.std.proofs.Common.{◌≡◌, ◌*◌, ◌≤◌, take}
-use Rattle.wz_init.specs.Run.{pages_together}
+use Rattle.wz_store.specs.State.{pages_together}
 use Rattle.wz_init.proofs.ticking.pages.Given as goal
 
 abbrev pub invariant-loop-index : goal.invariant-loop-index
