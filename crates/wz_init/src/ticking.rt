@@ -20,8 +20,9 @@ use crate::stepping::Steps;
 use crate::turn::{Entered, Turned};
 use std::alloc::AllocError;
 use wz_linear::Linear;
-use wz_machine::{Advance, Ask, EnterFault, GrowFault, Growth, HostTarget, Machine, Tick};
-use wz_machine::is_table_change;
+use wz_machine::{
+    Advance, Ask, EnterFault, GrowFault, Growth, HostTarget, Machine, Tick, is_table_change,
+};
 use wz_store::{Function, Store};
 
 /// Whether the next tick of the only term would change a table.

@@ -1,5 +1,5 @@
 -- Many steps, put together.
-use Rattle.std.proofs.Common.{◌≡◌, ◌≤◌, ◌<◌, ◌+◌, ◌-◌, ◌⊎◌, ℕ, zero, suc, List, [], ◌∷◌, Option, Bool, true, false, IsTrue, IsFalse, inl, inr, length, take, get_or, set, refl, ap, sym, subst, ◌∙◌, arith}
+use Rattle.std.proofs.Common.{◌≡◌, ◌≤◌, ◌<◌, ◌+◌, ◌-◌, ◌⊎◌, ℕ, zero, suc, List, [], ◌∷◌, Option, Result, Ok, Err, OnErr, Bool, true, false, IsTrue, IsFalse, inl, inr, length, take, get_or, set, refl, ap, sym, subst, ◌∙◌, arith}
 use Rattle.wz_code.specs.declared.instr.Instr.{Instr}
 use Rattle.wz_code.specs.declared.instr.Instr.TheVariants.{Block, Loop, If}
 use Rattle.wz_code.specs.BodyParts.{BodyParts}
@@ -16,7 +16,7 @@ use Rattle.wz_machine.specs.Frames.{frame_count, local_count}
 use Rattle.wz_machine.specs.Stacks.{StackParts, stacks_term}
 use Rattle.wz_machine.specs.Straight.{changes_table}
 use Rattle.wz_machine.specs.Strides.{Gone}
-use Rattle.wz_machine.specs.Advance.{head_changes_table, StandingAdvanced, StackAdvanced, StandingAdvancedPart, StackAdvancedPart, StepsOn, EntersNone, Enters, Reaches, ReachesEntry, GoesNot, HaltsNext, IsOnward}
+use Rattle.wz_machine.specs.Advance.{head_changes_table, StandingAdvanced, StackAdvanced, IsAdvancePart, StandingAdvancedPart, StackAdvancedPart, StepsOn, EntersNone, Enters, Reaches, ReachesEntry, GoesNot, HaltsNext, IsOnward}
 use Rattle.wz_machine.specs.declared.advance.Onward.TheVariants as onward
 use Rattle.wz_machine.proofs.ChangeLemmas.{change_reaches_state}
 use Rattle.wz_machine.proofs.StandingLemmas.{stack_top, stack_set}
@@ -89,6 +89,21 @@ reaches_halt m limit first s after term middle new ran (same, stays, halts) =
     let one : P s middle = (ran, inr halts) in
     let two : P after middle = subst (λ (x : State). P x middle) (sym same) one in
     subst (λ (t : Term). P after t) (sym stays) two
+
+-- steps that were made before memory was refused, which changed nothing more
+pub part_made : (bodies : List BodyParts) (made limit : ℕ) (first : State) (term : Term) (store after : StoreState) (before now : StackParts) → made ≤ limit
+    → Reaches made first term (state_of bodies store) (stacks_term before) → now ≡ before → after ≡ store
+    → IsAdvancePart limit first term (state_of bodies after) (stacks_term now)
+part_made bodies made limit first term store after before now few ran same kept =
+    let P : StackParts → StoreState → Type 0 = λ x y. Reaches made first term (state_of bodies y) (stacks_term x) in
+    let one : P now store = subst (λ (x : StackParts). P x store) (sym same) ran in
+    let two : P now after = subst (λ (y : StoreState). P now y) (sym kept) one in
+    (made, few, (two, inl refl))
+
+-- what holds in any case holds at an error
+pub on_err : {T E P : Type 0} (r : Result T E) → P → OnErr r P
+on_err (Ok x) p = tt
+on_err (Err e) p = p
 
 -- the topmost term is the last of a list
 pub stack_advanced : (entered : Bool) (limit made : ℕ) (s after : State) (xs ys : List StandingParts) (before now d : StandingParts) (n : ℕ) → n ≡ length xs → 0 < n

@@ -34,8 +34,8 @@ returns-then-frames-clause-stepped g c =
       inl (omega arith),
     )
 
-pub returns-then-frame_locals-clause-stepped : goal.returns-then-frame_locals-clause-stepped
-returns-then-frame_locals-clause-stepped g c =
+pub returns-then-frame_locals-locals-clause-stepped : goal.returns-then-frame_locals-locals-clause-stepped
+returns-then-frame_locals-locals-clause-stepped g c =
     let gone = rw c.in-Went.is at c.in_ok-stride.ensures.strode in (
       gone_on c.args.bodies.now c.args.store.now c.args.self.now c.stride.new.self c.stride.new.store gone (sym c.meets_table.ensures ∙ c.if-meets_table.false),
       inr (omega arith),
