@@ -42,6 +42,7 @@ pub mod TickLemmas
 pub mod CallLemmas
 pub mod AskLemmas
 pub mod StraightLemmas
+pub mod TriedLemmas
 pub mod SiteLemmas
 pub mod RunLemmas
 pub mod GrowAskLemmas

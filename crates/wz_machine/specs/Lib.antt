@@ -31,6 +31,7 @@ pub mod Stacks
 pub mod Kept
 pub mod Opening
 pub mod Landing
+pub mod Tried
 pub mod Turns
 pub mod Ticks
 pub mod Strides

@@ -7,6 +7,7 @@
 ghost use Rattle.std.specs.Prelude.{◌≡◌, ◌<◌, length, IfOk, OnErr};
 ghost use Rattle.wz_machine.specs.PlainSteps.{site, PlainReply};
 
+pub(crate) mod common;
 mod memories;
 mod numeric;
 mod operands;
@@ -34,7 +35,7 @@ pub(crate) enum Plain {
 /// Runs one plain instruction of a body, on the locals of its frame, on the values of the innermost
 /// block, of which so many are used, and on the store. An error is a want of memory, and then
 /// nothing is changed.
-#[inline(always)]
+#[inline(never)]
 pub(crate) fn run_plain<M: Linear>(
     body: &Body,
     instr: &Instr,

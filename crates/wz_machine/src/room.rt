@@ -61,6 +61,13 @@ pub(crate) fn move_down(values: &mut Vec<Value>, to: usize, from: usize, count: 
         take to values.old.items ++ take count (drop from values.old.items) }
     ensures len { length values.new.items ≡ length values.old.items }
 {
+    if count == 0 {
+        return;
+    }
+    if count == 1 {
+        values[to] = values[from];
+        return;
+    }
     values.copy_within(from..from + count, to);
 }
 

@@ -7,7 +7,9 @@ ghost use Rattle.std.specs.Prelude.{◌≡◌, ◌≤◌, ◌+◌, length, drop}
 ghost use Rattle.wz_machine.specs.declared.straight.Stop.TheVariants.{Halted};
 ghost use Rattle.wz_machine.specs.PlainSteps.{site};
 ghost use Rattle.wz_machine.specs.Straight.{changes_table, point, RunsTo, StopsAt};
+ghost use Rattle.wz_machine.specs.Tried.{is_control as is_control_instr};
 
+use crate::plain::common::tries;
 use crate::plain::{Plain, run_plain};
 use wz_code::{Body, Instr};
 use wz_linear::Linear;
@@ -45,6 +47,39 @@ pub fn is_table_change(instr: &Instr) -> bool
         | Instr::TableCopy { to: _, from: _ }
         | Instr::TableGrow(_)
         | Instr::TableFill(_) => true,
+        _ => false,
+    }
+}
+
+/// Whether the instruction enters or leaves a block or a function, or grows something: it is never
+/// plain.
+#[inline(always)]
+pub(crate) fn is_control(instr: &Instr) -> bool
+    ensures { result ≡ is_control_instr instr.now }
+{
+    match *instr {
+        Instr::Block { shape: _, body: _ }
+        | Instr::Loop { shape: _, body: _ }
+        | Instr::If {
+            shape: _,
+            yes: _,
+            no: _,
+        }
+        | Instr::Br(_)
+        | Instr::BrIf(_)
+        | Instr::BrTable {
+            first: _,
+            count: _,
+            last: _,
+        }
+        | Instr::Return
+        | Instr::Call(_)
+        | Instr::CallIndirect {
+            signature: _,
+            table: _,
+        }
+        | Instr::TableGrow(_)
+        | Instr::MemoryGrow(_) => true,
         _ => false,
     }
 }
@@ -92,8 +127,15 @@ pub(crate) fn straight<M: Linear>(
     let mut rest = &code[..started];
     let mut now = have;
     while let Some((instr, tail)) = rest.split_first() {
+        if tries(instr, locals, own, &mut now, store) {
+            rest = tail;
+            continue;
+        }
         let made = started - rest.len();
         if is_table_change(instr) {
+            return halted(made, now);
+        }
+        if is_control(instr) {
             return halted(made, now);
         }
         match run_plain(body, instr, locals, own, now, store) {

@@ -16,6 +16,7 @@ use crate::asking::AskTurn;
 use crate::plain::Plain;
 use crate::stacks::Stacks;
 use crate::standing::Pending;
+use crate::straight::is_control;
 use crate::turn::Turn;
 use std::alloc::AllocError;
 use wz_code::{Body, Instr, NumOp, signature};
@@ -43,7 +44,7 @@ pub(crate) enum Stride<'m> {
     },
 }
 
-#[inline]
+#[inline(always)]
 fn of_turn<'m>(turn: Turn) -> Stride<'m>
     ensures { (answer : Answer) (s : StoreState) (before now : StackParts) →
         Turned answer before turn now → Strode answer s before result now s }
@@ -56,7 +57,7 @@ fn of_turn<'m>(turn: Turn) -> Stride<'m>
     }
 }
 
-#[inline]
+#[inline(always)]
 fn of_asking<'m>(turn: AskTurn<'m>, rest: &'m [Instr]) -> Stride<'m>
     ensures { (answer : Answer) (s : StoreState) (before now : StackParts) →
         AskTurned answer before rest.now turn.entry now → Strode answer s before result now s }
@@ -79,7 +80,7 @@ fn of_asking<'m>(turn: AskTurn<'m>, rest: &'m [Instr]) -> Stride<'m>
 }
 
 /// The first instruction and those behind it.
-#[inline]
+#[inline(always)]
 pub(crate) fn split<'m>(code: &'m [Instr]) -> Option<(Instr, &'m [Instr])>
     ensures { MatchOption result (code.now ≡ []) (λ parts. code.now ≡ parts.0 ∷ parts.1.now) }
 {
@@ -99,6 +100,7 @@ fn operand_count(op: NumOp) -> usize
 
 impl<'m> Stacks<'m> {
     /// One step of the term, where no plain instruction stands in front.
+    #[inline(always)]
     fn special<M: Linear>(
         &mut self,
         instr: Instr,
@@ -178,6 +180,7 @@ impl<'m> Stacks<'m> {
     }
 
     /// One step of the term.
+    #[inline(always)]
     pub fn stride<M: Linear>(
         &mut self,
         bodies: &'m [Body],
@@ -193,6 +196,10 @@ impl<'m> Stacks<'m> {
         let Some((instr, rest)) = split(top.rest) else {
             return Ok(of_turn(self.finish()));
         };
+        if is_control(&instr) {
+            let stride = self.special(instr, rest, bodies, store)?;
+            return Ok(stride);
+        }
         match self.plain_turn(&instr, rest, store)? {
             Plain::Went(_) => Ok(Stride::Went),
             Plain::Trapped(kind) => Ok(Stride::Trapped(kind)),
