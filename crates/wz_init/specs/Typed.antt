@@ -1,12 +1,16 @@
 -- Section 7.5 of the Core Specification (soundness, in the appendix), of a module's own states: a valid module's fresh instance and the state
 -- that its run reaches are typed, and no run of it comes to a step without a rule.
-use Rattle.std.specs.Prelude.{◌≡◌, ℕ, ◌<◌}
+use Rattle.std.specs.Prelude.{◌≡◌, ℕ, ◌<◌, List}
 use Rattle.std.specs.List.{All}
 use Rattle.wz_module.specs.Module.{Module}
 use Rattle.wz_valid.specs.Validity.{IsValid}
 use Rattle.wz_valid.specs.Profile.{IsInProfile}
 use Rattle.wz_machine.specs.State.{State}
 use Rattle.wz_machine.specs.TypedState.{IsStateTyped, state_context}
+use Rattle.wz_machine.specs.TypedSteps.{NoneStuck}
+use Rattle.wz_machine.specs.Exports.{ExportInstance}
+use Rattle.wz_machine.specs.Moves.{Move}
+use Rattle.wz_machine.specs.Sessions.{observe}
 use Rattle.wz_init.specs.declared.order.Phase.{Phase}
 use Rattle.wz_init.specs.declared.order.RunOrder.{RunOrder}
 use Rattle.wz_init.specs.Instances.{Instance}
@@ -32,3 +36,15 @@ RunIsTyped = (m : Module) (order : RunOrder) (s : State) (ticks : ℕ) → IsVal
 abbrev pub RunIsNeverStuck : Type 0
 RunIsNeverStuck = (m : Module) (order : RunOrder) (phase : Phase) → IsValid m → IsInProfile m → DatasHoldBytes m → IsRunnable m order
     → ready m order ≡ StoppedIn phase NoRuleFits → ⊥
+
+-- ---- sessions
+
+-- no event of any list of moves from the fresh instance is stuck
+abbrev pub FreshIsNeverStuck : Type 0
+FreshIsNeverStuck = (m : Module) (s : State) (exports : List ExportInstance) (moves : List Move) → IsValid m → IsInProfile m → DatasHoldBytes m
+    → fresh m ≡ Instance s → NoneStuck (observe s exports moves)
+
+-- nor from the state that is reached
+abbrev pub ReachedIsNeverStuck : Type 0
+ReachedIsNeverStuck = (m : Module) (order : RunOrder) (s : State) (ticks : ℕ) (exports : List ExportInstance) (moves : List Move) → IsValid m → IsInProfile m
+    → DatasHoldBytes m → IsRunnable m order → ready m order ≡ Reached s ticks → NoneStuck (observe s exports moves)

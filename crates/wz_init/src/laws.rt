@@ -3,6 +3,7 @@
 
 ghost use Rattle.wz_init.specs.Laws.{FreshIsReached, RunIsReached, StateByBodies};
 ghost use Rattle.wz_init.specs.Typed.{FreshIsTyped, RunIsTyped, RunIsNeverStuck};
+ghost use Rattle.wz_init.specs.Typed.{FreshIsNeverStuck, ReachedIsNeverStuck};
 
 /// What a valid module's fresh instance holds, and the state that its run reaches: the module's
 /// types, functions, kinds and numbers of parts, tables as instantiation left them, segments as
@@ -36,4 +37,15 @@ pub fn states_are_typed()
     wz_machine::laws::typed_states();
     wz_machine::laws::typed_terms();
     wz_machine::laws::steps_add_no_references();
+}
+
+/// Whatever is done with a valid module's fresh instance, or with the state that its run reaches,
+/// no tick comes to a step without a rule.
+pub fn sessions_are_never_stuck()
+    ensures fresh { FreshIsNeverStuck }
+    ensures reached { ReachedIsNeverStuck }
+{
+    // the states are typed, and no move from a typed state is stuck
+    states_are_typed();
+    wz_machine::laws::never_stuck();
 }
