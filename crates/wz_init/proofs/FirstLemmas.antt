@@ -198,15 +198,14 @@ own_nulls : (n : ℕ) (kind : RefKind) → AreOwnReferences (replicate n (Null k
 own_nulls zero kind = tt
 own_nulls (suc n) kind = (tt, own_nulls n kind)
 
--- the reference that an own value is
-reference_own : (o : Option Value) (content : Value) (r : Reference) → o ≡ Some content → IsOwn content → reference_in o ≡ Some r → IsOwnReference r
-reference_own None content r e own h = absurd (cc h)
-reference_own (Some (I32 bits)) content r e own h = absurd (cc h)
-reference_own (Some (I64 bits)) content r e own h = absurd (cc h)
-reference_own (Some (F32 bits)) content r e own h = absurd (cc h)
-reference_own (Some (F64 bits)) content r e own h = absurd (cc h)
-reference_own (Some (Ref reference)) content r e own h =
-    let same : content ≡ Ref r = cc (e, h) in subst (λ (v : Value). IsOwn v) same own
+-- the reference that a value is
+pub reference_is : (o : Option Value) (content : Value) (r : Reference) → o ≡ Some content → reference_in o ≡ Some r → content ≡ Ref r
+reference_is None content r e h = absurd (cc h)
+reference_is (Some (I32 bits)) content r e h = absurd (cc h)
+reference_is (Some (I64 bits)) content r e h = absurd (cc h)
+reference_is (Some (F32 bits)) content r e h = absurd (cc h)
+reference_is (Some (F64 bits)) content r e h = absurd (cc h)
+reference_is (Some (Ref reference)) content r e h = cc (e, h)
 
 -- ---- the state that active segments are copied in
 
@@ -413,7 +412,7 @@ one_element m x e profile fine h = by (each_of (λ init. constant_reference m in
         each_from (λ init. constant_reference m init) (λ init. IsConstant (context_of m) init (type_of_kind x.kind)) (λ r. IsOwnReference r)
         (λ init r constant is.
         let has = own_value m (context_of m) init (type_of_kind x.kind) (reads_none m profile) constant in
-        reference_own (constant_value m init) has.content r has.evaluated has.own is) x.init fine.0 rs a i r here))
+        subst (λ (v : Value). IsOwn v) (reference_is (constant_value m init) has.content r has.evaluated is) has.own) x.init fine.0 rs a i r here))
 
 new_tables_own : (tables : List TableType) (i : ℕ) (t : Table) → slice_get (map new_table tables) i ≡ Some t → AreOwnReferences t.entries
 new_tables_own [] i t here = absurd (cc here)

@@ -1,7 +1,7 @@
 -- The fresh instance, by the store that it is made in.
 use Rattle.std.proofs.Common.{◌≡◌, ℕ, ◌+◌, ◌<◌, List, [], ◌∷◌, Option, Some, None, length, map, slice_get, option_map, option_and_then, refl, sym, ap, subst, ◌∙◌, arith, IsSomeAnd, Result, Ok, Err, OnOk, IfErr}
 use Rattle.std.specs.List.{All}
-use Rattle.std.proofs.lemmas.Option.{slice_get-map, slice_get_within, get_or_from_slice_get}
+use Rattle.std.proofs.lemmas.Option.{slice_get-map, slice_get_within}
 use Rattle.std.proofs.Math.ListN.{length-map}
 use Rattle.wz_types.specs.declared.types.RefKind.{RefKind}
 use Rattle.wz_types.specs.declared.types.TableType.{TableType}
@@ -37,6 +37,7 @@ use Rattle.wz_init.specs.Plain.{plain_element, plain_element_run, plain_elements
 use Rattle.wz_init.proofs.SegmentLemmas.{element_run_keeps, memories_kept, datas_kept}
 use Rattle.wz_init.proofs.AllocationLemmas.{allocated_by}
 use Rattle.wz_init.proofs.ModuleLemmas.{IsElemModeBody, IsElemBody, IsDataModeBody, then_same, same_elements_run, same_datas_run, all_of_map}
+use Rattle.wz_init.proofs.SmallLemmas.{all_at}
 
 -- ---- the same with other functions
 
@@ -172,9 +173,6 @@ elem_mode_ready m tables elements index asked (elem_mode.Active table offset) sa
 )
 elem_mode_ready m tables elements index asked elem_mode.Declarative same here h = tt
 
-at_place : {X : Type 0} (P : X → Type 0) (xs : List X) (i : ℕ) (x : X) → slice_get xs i ≡ Some x → All P xs → P x
-at_place P xs i x here all = subst P (get_or_from_slice_get xs i x x here) (all i x (slice_get_within xs i x here))
-
 pub elements_are_ready : (m : Module) (elements : List code_elem.Elem) (s : StoreState) → map elem_of elements ≡ m.elements → All (λ e. IsElemBody m e) elements
     → All (λ e. IsShortList e.init) m.elements → first_elements m ≡ Some (map plain_element elements) → WasAllocated m (stored_functions m) s → AreElemsReady s elements
 elements_are_ready m elements s e bodies short first was =
@@ -188,10 +186,10 @@ elements_are_ready m elements s e bodies short first was =
     ap (λ (ks : List RefKind). slice_get ks index) kinds ∙ slice_get-map (λ (y : code_elem.Elem). y.kind) elements index
     ∙ ap (λ (o : Option code_elem.Elem). option_map (λ (y : code_elem.Elem). y.kind) o) here in
     record {
-      short = at_place (λ (y : code_elem.Elem). IsShortList (elem_of y).init) elements index x here (all_of_map (λ e. IsShortList e.init) elem_of elements m.elements e short);
+      short = all_at (λ (y : code_elem.Elem). IsShortList (elem_of y).init) elements (all_of_map (λ e. IsShortList e.init) elem_of elements m.elements e short) index x here;
       mode =
           elem_mode_ready m (table_kinds s) (element_kinds s) index x.kind x.mode tables there
-          (at_place (λ (y : code_elem.Elem). IsElemBody m y) elements index x here bodies).mode;
+          (all_at (λ (y : code_elem.Elem). IsElemBody m y) elements bodies index x here).mode;
     }
 
 -- ---- what all element segments leave alone
@@ -234,10 +232,10 @@ datas_are_ready m elements segments s now e bodies short was ran =
     ∙ length-map segments data_of in
     let less : index < length now.datas = omega (arith, datas, slice_get_within segments index x here) in
     record {
-      short = at_place (λ (d : code_data.DataSegment). IsShortList (data_of d).bytes) segments index x here (all_of_map (λ d. IsShortList d.bytes) data_of segments m.datas e short);
+      short = all_at (λ (d : code_data.DataSegment). IsShortList (data_of d).bytes) segments (all_of_map (λ d. IsShortList d.bytes) data_of segments m.datas e short) index x here;
       mode =
           data_mode_ready m (length now.memories) (length now.datas) index x.mode memories less
-          (at_place (λ (d : code_data.DataSegment). IsDataModeBody m d.mode) segments index x here bodies);
+          (all_at (λ (d : code_data.DataSegment). IsDataModeBody m d.mode) segments bodies index x here);
     }
 
 -- ---- the fresh instance by what the code does

@@ -51,7 +51,7 @@ use Rattle.wz_init.specs.Reached.{lasting_of}
 use Rattle.wz_init.specs.Typed.{DatasHoldBytes}
 use Rattle.wz_init.proofs.ModuleLemmas.{reads_none}
 use Rattle.wz_init.proofs.FreshLemmas.{WasAllocated}
-use Rattle.wz_init.proofs.FirstLemmas.{own_value, each_from, IsFirst}
+use Rattle.wz_init.proofs.FirstLemmas.{own_value, each_from, reference_is, IsFirst}
 use Rattle.wz_init.proofs.SmallLemmas.{all_at}
 use Rattle.wz_init.proofs.TypedModules.{FunctionLaws, has_type, functions_typed}
 
@@ -104,15 +104,6 @@ new_datas_typed m s datas is i bytes here =
     (all_at (λ (bs : List ℕ). All (λ byte. byte < 256) bs) (map (λ (segment : DataSegment). segment.bytes) m.datas)
     (All-map (λ (bs : List ℕ). All (λ byte. byte < 256) bs) (λ (segment : DataSegment). segment.bytes) m.datas datas) i bytes
     (subst (λ (ds : List (List ℕ)). slice_get ds i ≡ Some bytes) is here))
-
--- the reference that a value is
-reference_is : (o : Option Value) (content : Value) (r : Reference) → o ≡ Some content → reference_in o ≡ Some r → content ≡ Ref r
-reference_is None content r e h = absurd (cc h)
-reference_is (Some (I32 bits)) content r e h = absurd (cc h)
-reference_is (Some (I64 bits)) content r e h = absurd (cc h)
-reference_is (Some (F32 bits)) content r e h = absurd (cc h)
-reference_is (Some (F64 bits)) content r e h = absurd (cc h)
-reference_is (Some (Ref reference)) content r e h = cc (e, h)
 
 module _ (m : Module) (s : State) (profile : IsInProfile m) (parts : lasting_parts s ≡ lasting_of m) where
   -- a constant expression of a kind gives a reference of it
