@@ -25,7 +25,7 @@ use Rattle.wz_machine.specs.Entered.{entered, entered_callable, entered_body}
 use Rattle.wz_machine.specs.Replies.{put, put_inside}
 use Rattle.wz_machine.proofs.ChangeLemmas.{change_keeps}
 use Rattle.wz_machine.specs.Advance.{head_changes_table}
-use Rattle.wz_init.specs.Run.{Stop, RunEnd, Returned, Stopped, too_much, within_limits, TableWouldChange, is_granted, growth_change, growth_value, pages_at, run_question, run_on, run_from, run_standing, run}
+use Rattle.wz_init.specs.Run.{Stop, RunEnd, Returned, Stopped, too_much, within_limits, TableWouldChange, is_granted, granted_growth, growth_value, pages_at, run_question, run_on, run_from, run_standing, run}
 use Rattle.wz_init.specs.declared.order.Phase.{Phase}
 use Rattle.wz_init.specs.Ready.{Ready, Reached, phase_end, phases_run}
 use Rattle.wz_init.specs.Reached.{IsOwn, AreOwn, InsideOwn, TermOwn, AreOwnReferences, HoldsOwn, GlobalsFit, HasSegmentsOf, AreWithinMaxima, IsLeftOf}
@@ -195,7 +195,7 @@ grown_left was first s index by h asked room = record {
   own = record { globals = h.own.globals; tables = h.own.tables };
 }
 
-growth_left : (was first s : State) (index by : ℕ) → IsLeftOf was first s → IsAsked s (AskMemory index by) → IsLeftOf was first (applied (growth_change s index by) s)
+growth_left : (was first s : State) (index by : ℕ) → IsLeftOf was first s → IsAsked s (AskMemory index by) → IsLeftOf was first (applied (granted_growth s index by) s)
 growth_left was first s index by h asked = by_test (is_granted s by) refl
   where
     by_test : (b : Bool) → is_granted s by ≡ b → IsLeftOf was first (applied (if b then GrowMemory index by else Nothing) s)
@@ -232,7 +232,7 @@ question_left : (was first : State) (on : State → Term → RunEnd) (last : Sta
     → IsLeftOf was first s → IsAsked s q → TermOwn rest → run_question on s rest q ≡ Returned last fuel ticks → IsLeftOf was first last
 question_left was first on last fuel ticks lead s rest (AskFloat op operands) h asked k e = absurd (cc e)
 question_left was first on last fuel ticks lead s rest (AskMemory index by) h asked k e =
-    lead (applied (growth_change s index by) s) (put (growth_value s index by ∷ []) rest) (growth_left was first s index by h asked)
+    lead (applied (granted_growth s index by) s) (put (growth_value s index by ∷ []) rest) (growth_left was first s index by h asked)
     (put_own (growth_value s index by ∷ []) rest (growth_value_own s index by, tt) k) e
 question_left was first on last fuel ticks lead s rest (AskTable index by reference) h asked k e = absurd (cc e)
 question_left was first on last fuel ticks lead s rest (AskHost (target.Import number) arguments type) h asked k e = absurd (cc e)
@@ -333,7 +333,7 @@ own_on s change own f = record {
   tables = subst (λ (ts : List Table). (index : ℕ) (table : Table) → slice_get ts index ≡ Some table → AreOwnReferences table.entries) (sym (same_tables s change f)) own.tables;
 }
 
-pub own_growth : (s : State) (index by : ℕ) → HoldsOwn s → HoldsOwn (applied (growth_change s index by) s)
+pub own_growth : (s : State) (index by : ℕ) → HoldsOwn s → HoldsOwn (applied (granted_growth s index by) s)
 own_growth s index by own = by_test (is_granted s by)
   where
     by_test : (b : Bool) → HoldsOwn (applied (if b then GrowMemory index by else Nothing) s)

@@ -48,7 +48,7 @@ use Rattle.wz_init.specs.Constants.{constant_number, constant_reference, number_
 use Rattle.wz_init.specs.Allocation.{each_of, first_global, first_globals, first_element, first_elements}
 use Rattle.wz_init.specs.Instances.{InstanceOf, Instance, ElementUnfit, DataUnfit, NoInstance, instance_then}
 use Rattle.wz_init.specs.Instantiation.{element_copied, element_run, elements_run, data_copied, data_run, datas_run}
-use Rattle.wz_init.specs.Plain.{plain_value, plain_number, plain_reference, IsPlain, IsPlainNumber, IsPlainReference, plain_global, plain_items, ArePlainItems, plain_element, plain_element_run, plain_elements_run, plain_data_run, plain_datas_run}
+use Rattle.wz_init.specs.Plain.{plain_value, plain_number, plain_reference, IsPlainConstant, IsPlainNumber, IsPlainReference, plain_global, plain_items, ArePlainItems, plain_element, plain_element_run, plain_elements_run, plain_data_run, plain_datas_run}
 use Rattle.wz_init.proofs.ConstantLemmas.{ReadsNone, no_global_imports, plain_body, may_refer_there, reference_value, referred}
 
 -- ---- lists
@@ -141,7 +141,7 @@ reference_body m context body asked reads h =
 -- ---- globals
 
 pub record IsGlobalBody (m : Module) (g : code_global.GlobalDef) : Type 0 where
-  pub plain : IsPlain g.init
+  pub plain : IsPlainConstant g.init
   pub same : first_global m (global_of g) ≡ Some (plain_global g)
 
 global_body : (m : Module) (g : code_global.GlobalDef) → IsInProfile m → IsGlobalOk m (global_of g) → IsGlobalBody m g

@@ -7,7 +7,7 @@ use Rattle.wz_init.specs.declared.order.Phase.{Phase}
 use Rattle.wz_init.specs.declared.faults.InitFault.{InitFault}
 use Rattle.wz_init.specs.declared.faults.InitFault.TheVariants as fault
 use Rattle.wz_init.specs.Run.{Trapped, RunEnd, Returned, run}
-use Rattle.wz_init.specs.Ready.{Reached, StoppedIn, phase_end, phases_run, IsRefusedBy}
+use Rattle.wz_init.specs.Ready.{Reached, StoppedIn, phase_end, phases_run, IsFaultOf}
 use Rattle.wz_init.specs.Reached.{IsLeftOf, IsSound}
 use Rattle.wz_init.specs.Turns.{FunctionsAreSmall, KeepsTakingNothing, StopsBy}
 use Rattle.wz_init.proofs.LeftLemmas.{run_left}
@@ -61,7 +61,7 @@ unfolding phases_run
 phase_returns phase function later s fuel ticks last left made e = ap (λ (x : RunEnd). phase_end phase (λ new left made. phases_run later new left made) x) e
 
 pub phase_stops : (phase : Phase) (function : ℕ) (later : List (Phase × ℕ)) (s : State) (fuel ticks : ℕ) (fault : InitFault)
-    → StopsBy phase (run s function fuel ticks) fault → IsRefusedBy (phases_run ((phase, function) ∷ later) s fuel ticks) fault
+    → StopsBy phase (run s function fuel ticks) fault → IsFaultOf (phases_run ((phase, function) ∷ later) s fuel ticks) fault
 unfolding phases_run
 phase_stops phase function later s fuel ticks (fault.ElementOutOfBounds index) h = absurd h
 phase_stops phase function later s fuel ticks (fault.DataOutOfBounds index) h = absurd h

@@ -16,7 +16,7 @@ use Rattle.wz_machine.specs.Frames.{frames_inside, locals_inside, frame_count, l
 use Rattle.wz_machine.specs.Replies.{put, put_inside}
 use Rattle.wz_machine.proofs.LeafLemmas.{if-both}
 use Rattle.wz_types.specs.declared.value.Value.TheVariants.{I32}
-use Rattle.wz_init.specs.Run.{Stop, FramesAreTooMany, LocalsAreTooMany, RunEnd, Returned, Stopped, TableWouldChange, Trapped, NoRuleFits, FloatIsAsked, ImportIsCalled, too_much, within_limits, growth_change, growth_value, run_from}
+use Rattle.wz_init.specs.Run.{Stop, FramesAreTooMany, LocalsAreTooMany, RunEnd, Returned, Stopped, TableWouldChange, Trapped, NoRuleFits, FloatIsAsked, ImportIsCalled, too_much, within_limits, granted_growth, growth_value, run_from}
 use Rattle.wz_code.specs.declared.numeric.NumOp.{NumOp}
 use Rattle.wz_machine.specs.declared.questions.HostTarget.TheVariants as target
 use Rattle.wz_init.specs.declared.turn.Turned.TheVariants as turned
@@ -202,18 +202,18 @@ module _ (s after : State) (stack : List Standing) (term : Term) (spares : head_
       }
 
   pub grown_run : (index by : ℕ) (last : State) (now : List Standing) → IsTicked s term (turned.Memory index by) after stack
-      → last ≡ applied (growth_change after index by) after → now ≡ Runs (put (growth_value after index by ∷ []) (top_term stack)) ∷ [] → (fuel ticks : ℕ)
+      → last ≡ applied (granted_growth after index by) after → now ≡ Runs (put (growth_value after index by ∷ []) (top_term stack)) ∷ [] → (fuel ticks : ℕ)
       → run_from (suc fuel) ticks s term ≡ run_from fuel (ticks + 1) last (top_term now)
   grown_run index by last now t e e' fuel ticks =
       let rest : top_term stack ≡ t.0 = ap (λ (x : List Standing). top_term x) t.3 in
       run_step fuel ticks s term (Ask (AskMemory index by) t.0) spares t.1
-      ∙ ap (λ (x : State). run_from fuel (ticks + 1) (applied (growth_change x index by) x) (put (growth_value x index by ∷ []) t.0)) (sym t.2)
+      ∙ ap (λ (x : State). run_from fuel (ticks + 1) (applied (granted_growth x index by) x) (put (growth_value x index by ∷ []) t.0)) (sym t.2)
       ∙ ap (λ (x : State). run_from fuel (ticks + 1) x (put (growth_value after index by ∷ []) t.0)) (sym e)
       ∙ ap (λ (x : Term). run_from fuel (ticks + 1) last (put (growth_value after index by ∷ []) x)) (sym rest)
       ∙ ap (λ (x : List Standing). run_from fuel (ticks + 1) last (top_term x)) (sym e')
 
   pub grown_running : (index by : ℕ) (last : State) (now : List Standing) → IsTicked s term (turned.Memory index by) after stack
-      → last ≡ applied (growth_change after index by) after → now ≡ Runs (put (growth_value after index by ∷ []) (top_term stack)) ∷ []
+      → last ≡ applied (granted_growth after index by) after → now ≡ Runs (put (growth_value after index by ∷ []) (top_term stack)) ∷ []
       → IsWithinLimits term → HoldsOwn s → TermOwn term → IsRunning last now
   grown_running index by last now t e e' within own holds =
       let fine = subst (λ (a : Answer). AnswerFine s a) t.1 (step_fine s term spares own holds) in

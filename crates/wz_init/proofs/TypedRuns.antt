@@ -43,7 +43,7 @@ use Rattle.wz_init.specs.Instances.{Instance, ElementUnfit, DataUnfit, NoInstanc
 use Rattle.wz_init.specs.Instantiation.{fresh}
 use Rattle.wz_init.specs.Orders.{IsPlainFunction, IsPlainWhereGiven, IsRunnable}
 use Rattle.wz_init.specs.Reached.{IsOwn, AreOwnReferences, lasting_of}
-use Rattle.wz_init.specs.Run.{Stop, FuelIsSpent, TableWouldChange, FramesAreTooMany, LocalsAreTooMany, Trapped, NoRuleFits, FloatIsAsked, ImportIsCalled, RunEnd, Returned, Stopped, frames_limit, all_locals_limit, too_much, within_limits, is_granted, growth_change, pages_at, growth_value, run_question, run_on, run_from, run_standing, run}
+use Rattle.wz_init.specs.Run.{Stop, FuelIsSpent, TableWouldChange, FramesAreTooMany, LocalsAreTooMany, Trapped, NoRuleFits, FloatIsAsked, ImportIsCalled, RunEnd, Returned, Stopped, frames_limit, all_locals_limit, too_much, within_limits, is_granted, granted_growth, pages_at, growth_value, run_question, run_on, run_from, run_standing, run}
 use Rattle.wz_init.specs.Ready.{Ready, Reached, StoppedIn, UnfitElement, UnfitData, NeverMade, phase_of, phases, phase_end, phases_run, ready_from, ready}
 use Rattle.wz_init.specs.Typed.{DatasHoldBytes, FreshIsTyped, RunIsTyped, RunIsNeverStuck}
 use Rattle.wz_init.proofs.FreshLemmas.{was_allocated}
@@ -104,7 +104,7 @@ IsReadyKept m NeverMade = Unit {0}
 
 -- ---- growth that is asked for
 
-growth_typed : (s : State) (index by : ℕ) → IsChangeTyped s (growth_change s index by)
+growth_typed : (s : State) (index by : ℕ) → IsChangeTyped s (granted_growth s index by)
 growth_typed s index by = by_test (is_granted s by) refl
   where
     by_test : (b : Bool) → is_granted s by ≡ b → IsChangeTyped s (if b then GrowMemory index by else Nothing)
@@ -114,7 +114,7 @@ growth_typed s index by = by_test (is_granted s by) refl
         let few = pages_at_most s.memories index memory here in omega (arith, all, few)
     by_test false granted = tt
 
-growth_own : (s : State) (index by : ℕ) → ChangeHolds is_own (growth_change s index by)
+growth_own : (s : State) (index by : ℕ) → ChangeHolds is_own (granted_growth s index by)
 growth_own s index by = if-both (λ (change : Change). ChangeHolds is_own change) (is_granted s by) (GrowMemory index by) Nothing tt tt
 
 pages_typed : (s : State) (index : ℕ) (o : Option Memory) → IsSelfTyped s → slice_get s.memories index ≡ o → HasType (state_context s) (I32 (pages_at o)) valtype.I32
@@ -186,9 +186,9 @@ module _ (laws : TypingLaws) (m : Module) where
   question_kept on lead s rest (AskFloat op operands) kept typed own = tt
   question_kept on lead s rest (AskMemory index by) kept typed own =
       let value = growth_value s index by in
-      lead (applied (growth_change s index by) s) (put (value ∷ []) rest)
-      (kept_on s (growth_change s index by) kept (growth_typed s index by) (growth_own s index by))
-      (term_on s (growth_change s index by) (put (value ∷ []) rest) (
+      lead (applied (granted_growth s index by) s) (put (value ∷ []) rest)
+      (kept_on s (granted_growth s index by) kept (growth_typed s index by) (growth_own s index by))
+      (term_on s (granted_growth s index by) (put (value ∷ []) rest) (
         (typed.0, typed.1.answered (value ∷ []) (growth_value_typed s index by kept.typed, tt)),
         laws.own_answers is_own (value ∷ []) rest (growth_value_holds s index by, tt) own.1,
       ))

@@ -59,8 +59,8 @@ plain_number body = unwrap_or (number_in (plain_value body)) 0
 abbrev pub plain_reference : BodyParts → Reference
 plain_reference body = unwrap_or (reference_in (plain_value body)) (Null kind.Func)
 
-abbrev pub IsPlain : BodyParts → Type 0
-IsPlain body = IsSome (plain_value body)
+abbrev pub IsPlainConstant : BodyParts → Type 0
+IsPlainConstant body = IsSome (plain_value body)
 
 abbrev pub IsPlainNumber : BodyParts → Type 0
 IsPlainNumber body = IsSome (number_in (plain_value body))

@@ -62,18 +62,18 @@ abbrev pub IsReached : Module → RunOrder → StoreState → ℕ → Type 0
 IsReached m order store ticks = ready m order ≡ Reached (state_in m store) ticks
 
 -- why a run came to no state; want of memory has no cause in the module
-abbrev pub IsRefusedBy : Ready → InitFault → Type 0
-IsRefusedBy end (fault.ElementOutOfBounds index) = end ≡ UnfitElement index
-IsRefusedBy end (fault.DataOutOfBounds index) = end ≡ UnfitData index
-IsRefusedBy end (fault.Trap phase kind) = end ≡ StoppedIn phase (Trapped kind)
-IsRefusedBy end fault.OutOfFuel = (phase : Phase) × (end ≡ StoppedIn phase FuelIsSpent)
-IsRefusedBy end (fault.ImportCalled import) = (phase : Phase) × (end ≡ StoppedIn phase (ImportIsCalled import))
-IsRefusedBy end (fault.FloatUsed op) = (phase : Phase) × (end ≡ StoppedIn phase (FloatIsAsked op))
-IsRefusedBy end fault.TableChanged = (phase : Phase) × (end ≡ StoppedIn phase TableWouldChange)
-IsRefusedBy end fault.TooManyFrames = (phase : Phase) × (end ≡ StoppedIn phase FramesAreTooMany)
-IsRefusedBy end fault.TooManyFrameLocals = (phase : Phase) × (end ≡ StoppedIn phase LocalsAreTooMany)
-IsRefusedBy end fault.Stuck = (phase : Phase) × (end ≡ StoppedIn phase NoRuleFits)
-IsRefusedBy end fault.NoMemory = Unit {0}
+abbrev pub IsFaultOf : Ready → InitFault → Type 0
+IsFaultOf end (fault.ElementOutOfBounds index) = end ≡ UnfitElement index
+IsFaultOf end (fault.DataOutOfBounds index) = end ≡ UnfitData index
+IsFaultOf end (fault.Trap phase kind) = end ≡ StoppedIn phase (Trapped kind)
+IsFaultOf end fault.OutOfFuel = (phase : Phase) × (end ≡ StoppedIn phase FuelIsSpent)
+IsFaultOf end (fault.ImportCalled import) = (phase : Phase) × (end ≡ StoppedIn phase (ImportIsCalled import))
+IsFaultOf end (fault.FloatUsed op) = (phase : Phase) × (end ≡ StoppedIn phase (FloatIsAsked op))
+IsFaultOf end fault.TableChanged = (phase : Phase) × (end ≡ StoppedIn phase TableWouldChange)
+IsFaultOf end fault.TooManyFrames = (phase : Phase) × (end ≡ StoppedIn phase FramesAreTooMany)
+IsFaultOf end fault.TooManyFrameLocals = (phase : Phase) × (end ≡ StoppedIn phase LocalsAreTooMany)
+IsFaultOf end fault.Stuck = (phase : Phase) × (end ≡ StoppedIn phase NoRuleFits)
+IsFaultOf end fault.NoMemory = Unit {0}
 
 abbrev pub IsRefused : Module → RunOrder → InitFault → Type 0
-IsRefused m order fault = IsRefusedBy (ready m order) fault
+IsRefused m order fault = IsFaultOf (ready m order) fault

@@ -60,8 +60,8 @@ within_limits on term (Some stop) = Stopped stop
 abbrev pub is_granted : State → ℕ → Bool
 is_granted s by = nat_le (pages_together s.memories + by) pages_limit
 
-abbrev pub growth_change : State → ℕ → ℕ → Change
-growth_change s index by = if is_granted s by then GrowMemory index by else Nothing
+abbrev pub granted_growth : State → ℕ → ℕ → Change
+granted_growth s index by = if is_granted s by then GrowMemory index by else Nothing
 
 abbrev pub pages_at : Option Memory → ℕ
 pages_at None = 0
@@ -76,7 +76,7 @@ growth_value s index by = if is_granted s by then I32 (pages_at (slice_get s.mem
 -- a question that a step asks; no table grows, for that instruction was refused
 abbrev pub run_question : (State → Term → RunEnd) → State → Term → Question → RunEnd
 run_question on s rest (AskFloat op operands) = Stopped (FloatIsAsked op)
-run_question on s rest (AskMemory index by) = on (applied (growth_change s index by) s) (put (growth_value s index by ∷ []) rest)
+run_question on s rest (AskMemory index by) = on (applied (granted_growth s index by) s) (put (growth_value s index by ∷ []) rest)
 run_question on s rest (AskTable index by reference) = Stopped TableWouldChange
 run_question on s rest (AskHost (target.Import number) arguments type) = Stopped (ImportIsCalled number)
 run_question on s rest (AskHost (target.Foreign id) arguments type) = Stopped NoRuleFits

@@ -6,7 +6,7 @@ ghost use Rattle.wz_module.specs.Views.{import_of, init_of};
 ghost use Rattle.wz_store.specs.Made.{new_table, new_memory};
 ghost use Rattle.wz_init.specs.Functions.{import_functions, own_functions};
 ghost use Rattle.wz_init.specs.Plain.{plain_global, plain_items, plain_element, plain_reference};
-ghost use Rattle.wz_init.specs.Plain.{IsPlain, IsPlainReference, ArePlainItems};
+ghost use Rattle.wz_init.specs.Plain.{IsPlainConstant, IsPlainReference, ArePlainItems};
 ghost use Rattle.wz_init.specs.Plain.{functions_behind, globals_behind, tables_behind};
 ghost use Rattle.wz_init.specs.Plain.{memories_behind, elements_behind, datas_behind};
 
@@ -60,7 +60,7 @@ pub(crate) fn add_globals<'m, M: Linear>(
     globals: &[GlobalDef],
 ) -> Result<(), AllocError>
     requires room { length store.old.globals + length globals.now < 2 ^ 32 - 1 }
-    requires plain { All (λ g. IsPlain g.init) globals.now }
+    requires plain { All (λ g. IsPlainConstant g.init) globals.now }
     ensures { OnOk result (store.new ≡ globals_behind store.old (map plain_global globals.now)) }
 {
     for global in globals {

@@ -3,7 +3,7 @@
 
 ghost use Rattle.std.specs.Prelude.{◌≡◌, IsSome};
 ghost use Rattle.wz_init.specs.Plain.{instr_value, plain_constant, plain_number, plain_reference};
-ghost use Rattle.wz_init.specs.Plain.{IsPlain, IsPlainNumber, IsPlainReference};
+ghost use Rattle.wz_init.specs.Plain.{IsPlainConstant, IsPlainNumber, IsPlainReference};
 
 use wz_code::{Body, Instr};
 use wz_types::{Reference, Value};
@@ -24,7 +24,7 @@ fn instr_value(instr: &Instr) -> Option<Value>
 }
 
 pub(crate) fn constant(body: &Body) -> Value
-    requires { IsPlain body.now }
+    requires { IsPlainConstant body.now }
     ensures { result ≡ plain_constant body.now }
 {
     let block = body.block(0).unwrap_or(&[]);

@@ -10,7 +10,7 @@ ghost use Rattle.wz_init.specs.Instances.{Fresh, Instance};
 ghost use Rattle.wz_init.specs.Instantiation.{fresh};
 ghost use Rattle.wz_init.specs.States.{state_in};
 ghost use Rattle.wz_init.specs.Plain.{IsUnfit};
-ghost use Rattle.wz_init.specs.Ready.{IsReached, IsRefused, IsRefusedBy, ready_from};
+ghost use Rattle.wz_init.specs.Ready.{IsReached, IsRefused, IsFaultOf, ready_from};
 ghost use Rattle.wz_init.specs.Orders.{IsRunnable};
 ghost use Rattle.wz_init.specs.declared.order.RunOrder.{RunOrder};
 
@@ -28,7 +28,7 @@ use wz_store::{Reached, Store};
 /// A module without a fresh instance is never ready.
 fn never_ready(fault: StartFault) -> InitFault
     ensures { (m : ModuleRecord) (order : RunOrder) (made : Fresh) → IsUnfit made fault
-        → IsRefusedBy (ready_from m order made) result }
+        → IsFaultOf (ready_from m order made) result }
 {
     match fault {
         StartFault::ElementOutOfBounds { index } => InitFault::ElementOutOfBounds { index },

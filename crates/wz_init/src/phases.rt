@@ -3,7 +3,7 @@
 ghost use Rattle.std.specs.Prelude.{◌≡◌, ◌≤◌, ◌+◌, ◌-◌, ◌++◌, ℕ, List, [], ◌∷◌, IfOk, IfErr, OnOk};
 ghost use Rattle.wz_init.specs.declared.order.Phase.{Phase};
 ghost use Rattle.wz_init.specs.Reached.{IsSound};
-ghost use Rattle.wz_init.specs.Ready.{Reached, IsRefusedBy, phase_of, phases, phases_run};
+ghost use Rattle.wz_init.specs.Ready.{Reached, IsFaultOf, phase_of, phases, phases_run};
 ghost use Rattle.wz_init.specs.Turns.{HasEnded, FunctionsAreSmall, PhaseTakesNothing};
 ghost use Rattle.wz_init.specs.Turns.{PhasesTakeNothing, KeepsTakingNothing};
 
@@ -34,7 +34,7 @@ fn run_phase<S: Steps>(
         phases_run (phase_of phase function ++ later) (S.state machine.old) fuel ticks
         ≡ phases_run later (S.state machine.new) left (ticks + (fuel - left))) }
     ensures stopped { (ticks : ℕ) (later : List (Phase × ℕ)) → IfErr result (λ fault.
-        IsRefusedBy
+        IsFaultOf
         (phases_run (phase_of phase function ++ later) (S.state machine.old) fuel ticks)
         fault) }
 {
@@ -59,7 +59,7 @@ pub(crate) fn run_phases<S: Steps>(
     ensures reached { IfOk result (λ ticks.
         phases_run (phases start order.now) (S.state machine.old) order.now.fuel 0
         ≡ Reached (S.state machine.new) ticks) }
-    ensures refused { IfErr result (λ fault. IsRefusedBy
+    ensures refused { IfErr result (λ fault. IsFaultOf
         (phases_run (phases start order.now) (S.state machine.old) order.now.fuel 0) fault) }
 {
     let first = match run_phase(machine, Phase::Start, start, order.fuel) {

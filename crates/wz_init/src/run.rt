@@ -5,7 +5,7 @@ ghost use Rattle.std.specs.Bool.{OnTrue, OnFalse};
 ghost use Rattle.wz_store.specs.Changes.{applied};
 ghost use Rattle.wz_machine.specs.Terms.{Runs};
 ghost use Rattle.wz_machine.specs.Replies.{put};
-ghost use Rattle.wz_init.specs.Run.{Returned, growth_change, growth_value, run_from, run};
+ghost use Rattle.wz_init.specs.Run.{Returned, granted_growth, growth_value, run_from, run};
 ghost use Rattle.wz_init.specs.Turns.{top_term, IsAlone, IsWithinLimits, IsRunning, HasEnded};
 ghost use Rattle.wz_init.specs.Turns.{IsAskedHere, IsBeyond, IsTurned, IsRound, StopsBy};
 ghost use Rattle.wz_init.specs.Turns.{FunctionsAreSmall, TakesNothing};
@@ -42,7 +42,7 @@ fn check_limits<S: Steps>(machine: &S) -> Result<(), InitFault>
 fn grow<S: Steps>(machine: &mut S, index: u32, by: u32) -> Result<(), InitFault>
     requires { IsAskedHere (S.state machine.old) (S.stack machine.old) index by }
     ensures state { OnOk result (S.state machine.new ≡
-        applied (growth_change (S.state machine.old) index by) (S.state machine.old)) }
+        applied (granted_growth (S.state machine.old) index by) (S.state machine.old)) }
     ensures stack { OnOk result (S.stack machine.new ≡
         Runs (put (growth_value (S.state machine.old) index by ∷ [])
         (top_term (S.stack machine.old))) ∷ []) }

@@ -9,7 +9,7 @@ ghost use Rattle.wz_machine.specs.Advance.{head_changes_table};
 ghost use Rattle.wz_machine.specs.Frames.{frame_count, local_count};
 ghost use Rattle.wz_machine.specs.Replies.{put};
 ghost use Rattle.wz_store.specs.Changes.{applied};
-ghost use Rattle.wz_init.specs.Run.{is_granted, growth_change, growth_value};
+ghost use Rattle.wz_init.specs.Run.{is_granted, granted_growth, growth_value};
 ghost use Rattle.wz_store.specs.State.{pages_together};
 ghost use Rattle.wz_init.specs.Turns.{top_term, IsAlone, IsEntered, IsTicked, IsAskedHere};
 ghost use Rattle.wz_init.specs.Turns.{HasAdvanced, TakesNothing};
@@ -73,7 +73,7 @@ pub(crate) trait Steps {
         requires asked { IsAskedHere (state self.old) (stack self.old) index by }
         requires granted { granted ≡ is_granted (state self.old) by }
         ensures state { OnOk result
-            (state self.new ≡ applied (growth_change (state self.old) index by) (state self.old)) }
+            (state self.new ≡ applied (granted_growth (state self.old) index by) (state self.old)) }
         ensures stack { OnOk result (stack self.new ≡
             Runs (put (growth_value (state self.old) index by ∷ [])
             (top_term (stack self.old))) ∷ []) }

@@ -10,7 +10,7 @@ ghost use Rattle.wz_machine.specs.Ticks.{event_of, asked_event};
 ghost use Rattle.wz_machine.specs.Frames.{frame_count, local_count};
 ghost use Rattle.wz_machine.specs.Machines.{machine_state, machine_stack};
 ghost use Rattle.wz_machine.specs.Moves.{GrowAsked, HostCall};
-ghost use Rattle.wz_init.specs.Run.{is_granted, growth_change, growth_value};
+ghost use Rattle.wz_init.specs.Run.{is_granted, granted_growth, growth_value};
 ghost use Rattle.wz_store.specs.State.{pages_together};
 ghost use Rattle.wz_init.specs.Turns.{top_term, IsAlone, IsEntered, IsTicked, IsAskedHere};
 ghost use Rattle.wz_init.specs.Turns.{HasAdvanced, TakesNothing};
@@ -166,7 +166,7 @@ fn answer_growth<'m, M: Linear>(
     requires asked { IsAskedHere (machine_state machine.old) (machine_stack machine.old) index by }
     requires granted { granted ≡ is_granted (machine_state machine.old) by }
     ensures state { OnOk result (machine_state machine.new ≡
-        applied (growth_change (machine_state machine.old) index by)
+        applied (granted_growth (machine_state machine.old) index by)
         (machine_state machine.old)) }
     ensures stack { OnOk result (machine_stack machine.new ≡
         Runs (put (growth_value (machine_state machine.old) index by ∷ [])

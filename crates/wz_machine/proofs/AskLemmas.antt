@@ -23,7 +23,7 @@ use Rattle.wz_machine.specs.Step.{code_reduct, outcome_reduct, step}
 use Rattle.wz_machine.specs.Contexts.{FrameContent, term_in, code_content}
 use Rattle.wz_machine.specs.Flat.{Opened, locals_in, own_values, layers_of, results_of, content_of, layers_in}
 use Rattle.wz_machine.specs.Stacks.{StackParts, opened_of, flat_of, stacks_term, IsStacked, last_values, first_values}
-use Rattle.wz_machine.specs.Asks.{ComesTo, Asked, stepped}
+use Rattle.wz_machine.specs.Asks.{ComesTo, HasAsked, stepped}
 use Rattle.wz_machine.specs.Standings.{AskingHost}
 use Rattle.wz_machine.specs.Turns.{own_of}
 use Rattle.wz_machine.specs.Calling.{zeroed_locals, call_in, with_call}
@@ -181,7 +181,7 @@ pub asked_host : (s : StackParts) (rest : List Instr) (target : HostTarget) (typ
     → s.top.height + length type.params ≤ have → (st : State)
     → ComesTo st s rest (Does (Poses (AskHost target (last_values (length type.params) (take have s.values)) type)
     (reverse (drop s.top.height (first_values (length type.params) (take have s.values))))))
-    → Asked (step st (stacks_term s)) (AskingHost target type) (length type.params) (stepped s rest have)
+    → HasAsked (step st (stacks_term s)) (AskingHost target type) (length type.params) (stepped s rest have)
 asked_host s rest target type have is within own st comes =
     let p : ℕ = length type.params in
     let v : List Value = take have s.values in
@@ -197,7 +197,7 @@ asked_host s rest target type have is within own st comes =
 pub import_called : (s : StackParts) (rest : List Instr) (type : FunctionType) (what : FunctionBody) (number have : ℕ) → IsStacked s
     → have ≤ length s.values → s.top.height + length type.params ≤ have → what ≡ ImportedBody number
     → (st : State) → ComesTo st s rest (call_step (Some (record { type = type; body = what })) (own_of s have))
-    → Asked (step st (stacks_term s)) (AskingHost (target.Import number) type) (length type.params) (stepped s rest have)
+    → HasAsked (step st (stacks_term s)) (AskingHost (target.Import number) type) (length type.params) (stepped s rest have)
 import_called s rest type what number have is within own e st comes =
     let taken = comes_taken s rest type (λ arguments below. invocation type what arguments below) have within own st comes in
     let args : List Value = last_values (length type.params) (take have s.values) in

@@ -16,7 +16,7 @@ use Rattle.wz_machine.specs.Step.{step}
 use Rattle.wz_machine.specs.Contexts.{Layer, LabelLayer, in_layer, code_content, content_reduct}
 use Rattle.wz_machine.specs.Flat.{Opened, FlatStacks, content_of, layers_in, results_of, own_values, locals_in, layer_of, opened_content}
 use Rattle.wz_machine.specs.Stacks.{EntryKind, BlockEntry, LoopEntry, Entry, StackParts, open_kind, opened_of, flat_of, stacks_term, HasRoom, IsStacked}
-use Rattle.wz_machine.specs.Opening.{block_in, with_block}
+use Rattle.wz_machine.specs.Opening.{block_in, with_block_opened}
 use Rattle.wz_machine.specs.Turns.{own_of, again_of}
 use Rattle.wz_machine.proofs.ContextLemmas.{step_within}
 use Rattle.wz_machine.proofs.FlatLemmas.{opening_step}
@@ -78,7 +78,7 @@ entry-goes : (st : State) (s : StackParts) (kind : EntryKind) (again : Option Co
     → content_reduct st (content_of (flat_of s))
     ≡ Goes Nothing (locals_in (opened_of s.top) s.values)
     (InLabel (drop params (own_of s have)) arity again (Innermost (take params (own_of s have)) (code_in s.top.body code)) (code_in s.top.body rest))
-    → step st (stacks_term s) ≡ Next Nothing (stacks_term (with_block s rest kind code have params arity))
+    → step st (stacks_term s) ≡ Next Nothing (stacks_term (with_block_opened s rest kind code have params arity))
 entry-goes st s kind again code rest have params arity stacked within own layer reduct =
     let base : ℕ = have - params in
     let b_le : s.top.base ≤ base = omega (arith, stacked.room.base, own) in
@@ -103,7 +103,7 @@ pub block-step : (st : State) (s : StackParts) (types : List FunctionType) (shap
     → have ≤ length s.values → block_type types shape ≡ Some type → s.top.height + length type.params ≤ have
     → content_reduct st (content_of (flat_of s))
     ≡ block_entry (locals_in (opened_of s.top) s.values) (block_type types shape) None (code_in s.top.body code) (own_of s have) (code_in s.top.body rest)
-    → step st (stacks_term s) ≡ Next Nothing (stacks_term (with_block s rest BlockEntry code have (length type.params) (length type.results)))
+    → step st (stacks_term s) ≡ Next Nothing (stacks_term (with_block_opened s rest BlockEntry code have (length type.params) (length type.results)))
 block-step st s types shape type code rest have stacked within is own reduct =
     entry-goes st s BlockEntry None code rest have (length type.params) (length type.results) stacked within own (λ below locals. refl)
     (reduct ∙ ap (λ (t : Option FunctionType). block_entry (locals_in (opened_of s.top) s.values) t None (code_in s.top.body code) (own_of s have) (code_in s.top.body rest)) is
@@ -113,7 +113,7 @@ pub loop-step : (st : State) (s : StackParts) (types : List FunctionType) (shape
     → have ≤ length s.values → block_type types shape ≡ Some type → s.top.height + length type.params ≤ have
     → content_reduct st (content_of (flat_of s))
     ≡ block_entry (locals_in (opened_of s.top) s.values) (block_type types shape) (Some (code_in s.top.body code)) (code_in s.top.body code) (own_of s have) (code_in s.top.body rest)
-    → step st (stacks_term s) ≡ Next Nothing (stacks_term (with_block s rest (LoopEntry code) code have (length type.params) (length type.params)))
+    → step st (stacks_term s) ≡ Next Nothing (stacks_term (with_block_opened s rest (LoopEntry code) code have (length type.params) (length type.params)))
 loop-step st s types shape type code rest have stacked within is own reduct =
     entry-goes st s (LoopEntry code) (Some (code_in s.top.body code)) code rest have (length type.params) (length type.params) stacked within own (λ below locals. refl)
     (reduct ∙ ap (λ (t : Option FunctionType). block_entry (locals_in (opened_of s.top) s.values) t (Some (code_in s.top.body code)) (code_in s.top.body code) (own_of s have)
@@ -171,26 +171,26 @@ EntryReduct st s types shape loops code rest have =
 
 pub block-turn : (st : State) (s now : StackParts) (types : List FunctionType) (shape : Shape) (loops : Bool) (code rest : List Instr) (have : ℕ) (counts : ℕ × ℕ) → IsStacked s
     → have ≤ length s.values → Some counts ≡ option_map counts_in (block_type types shape) → s.top.height + counts.0 ≤ have → loops ≡ false
-    → now ≡ with_block s rest BlockEntry code have counts.0 counts.1 → EntryReduct st s types shape loops code rest have
+    → now ≡ with_block_opened s rest BlockEntry code have counts.0 counts.1 → EntryReduct st s types shape loops code rest have
     → step st (stacks_term s) ≡ Next Nothing (stacks_term now)
 block-turn st s now types shape loops code rest have counts stacked within found own is entered reduct =
     let type : TypeOf (block_type types shape) counts = type-of (block_type types shape) counts found in
     block-step st s types shape type.found code rest have stacked within type.is (omega (arith, own, type.params))
     (subst (λ (b : Bool). EntryReduct st s types shape b code rest have) is reduct)
     ∙ ap (λ (t : StackParts). Next Nothing (stacks_term t))
-    (ap (λ (n : ℕ). with_block s rest BlockEntry code have n (length type.found.results)) (sym type.params)
-    ∙ ap (λ (n : ℕ). with_block s rest BlockEntry code have counts.0 n) (sym type.results) ∙ sym entered)
+    (ap (λ (n : ℕ). with_block_opened s rest BlockEntry code have n (length type.found.results)) (sym type.params)
+    ∙ ap (λ (n : ℕ). with_block_opened s rest BlockEntry code have counts.0 n) (sym type.results) ∙ sym entered)
 
 pub loop-turn : (st : State) (s now : StackParts) (types : List FunctionType) (shape : Shape) (loops : Bool) (code rest : List Instr) (have : ℕ) (counts : ℕ × ℕ) → IsStacked s
     → have ≤ length s.values → Some counts ≡ option_map counts_in (block_type types shape) → s.top.height + counts.0 ≤ have → loops ≡ true
-    → now ≡ with_block s rest (LoopEntry code) code have counts.0 counts.0 → EntryReduct st s types shape loops code rest have
+    → now ≡ with_block_opened s rest (LoopEntry code) code have counts.0 counts.0 → EntryReduct st s types shape loops code rest have
     → step st (stacks_term s) ≡ Next Nothing (stacks_term now)
 loop-turn st s now types shape loops code rest have counts stacked within found own is entered reduct =
     let type : TypeOf (block_type types shape) counts = type-of (block_type types shape) counts found in
     loop-step st s types shape type.found code rest have stacked within type.is (omega (arith, own, type.params))
     (subst (λ (b : Bool). EntryReduct st s types shape b code rest have) is reduct)
     ∙ ap (λ (t : StackParts). Next Nothing (stacks_term t))
-    (ap (λ (n : ℕ). with_block s rest (LoopEntry code) code have n n) (sym type.params) ∙ sym entered)
+    (ap (λ (n : ℕ). with_block_opened s rest (LoopEntry code) code have n n) (sym type.params) ∙ sym entered)
 
 pub few-turn : (st : State) (s : StackParts) (types : List FunctionType) (shape : Shape) (loops : Bool) (code rest : List Instr) (have : ℕ) (counts : ℕ × ℕ)
     → have ≤ length s.values → Some counts ≡ option_map counts_in (block_type types shape) → have - s.top.height < counts.0

@@ -26,7 +26,7 @@ use Rattle.wz_machine.specs.Flat.{locals_in}
 use Rattle.wz_machine.specs.Stacks.{StackParts, opened_of, stacks_term, IsStacked, last_values, first_values}
 use Rattle.wz_machine.specs.Standings.{Asking, AskingFloat, AskingMemory, AskingTable, StacksWork, question_of, IsAnswerable}
 use Rattle.wz_machine.specs.Growths.{memory_growable, table_growable}
-use Rattle.wz_machine.specs.Asks.{ComesTo, Asked, AsksFloat, stepped, failed_growth, own_stack, top_number, top_growth}
+use Rattle.wz_machine.specs.Asks.{ComesTo, HasAsked, AsksFloat, stepped, failed_growth, own_stack, top_number, top_growth}
 use Rattle.wz_machine.proofs.ListLemmas.{drop-own}
 use Rattle.wz_machine.proofs.AskLemmas.{instr_comes, went_step, asked_step, stuck_step}
 
@@ -68,7 +68,7 @@ own_long s count some le =
 asked_last : (st : State) (s : StackParts) (rest : List Instr) (asking : Asking) (count have : ℕ) → IsStacked s → length s.values ≡ have → s.top.height + count ≤ length s.values
     → IsAnswerable asking count (StacksWork (stepped s rest have))
     → ComesTo st s rest (Does (Poses (question_of asking (last_values count s.values)) (reverse (drop s.top.height (first_values count s.values)))))
-    → Asked (step st (stacks_term s)) asking count (stepped s rest have)
+    → HasAsked (step st (stacks_term s)) asking count (stepped s rest have)
 asked_last st s rest asking count have is len own answerable comes =
     let v : List Value = take have s.values in
     let all : s.values ≡ v = sym (take_all have s.values (omega (arith, len))) in
@@ -162,7 +162,7 @@ memory_fails st s rest index by is at number may =
 
 pub memory_asks : (st : State) (s : StackParts) (rest : List Instr) (index by have : ℕ) → IsStacked s → length s.values ≡ have → s.top.rest ≡ MemoryGrow index ∷ rest
     → top_number (own_stack s) ≡ Some by → memory_growable (slice_get st.memories index) by ≡ Some true
-    → Asked (step st (stacks_term s)) (AskingMemory index by) 1 (stepped s rest have)
+    → HasAsked (step st (stacks_term s)) (AskingMemory index by) 1 (stepped s rest have)
 unfolding memory_effect
 memory_asks st s rest index by have is len at number may =
     let long : s.top.height + 1 ≤ length s.values = number_long s by number in
@@ -173,7 +173,7 @@ memory_asks st s rest index by have is len at number may =
 -- ---- a float operation
 
 pub float_asks : (st : State) (s : StackParts) (rest : List Instr) (op : NumOp) (count have : ℕ) → IsStacked s → length s.values ≡ have → s.top.rest ≡ Num op ∷ rest
-    → AsksFloat op count s → Asked (step st (stacks_term s)) (AskingFloat op) count (stepped s rest have)
+    → AsksFloat op count s → HasAsked (step st (stacks_term s)) (AskingFloat op) count (stepped s rest have)
 float_asks st s rest op count have is len at asks =
     asked_last st s rest (AskingFloat op) count have is len asks.operands asks.some
     (instr_comes st s (Num op) rest at (λ code. refl)
@@ -254,7 +254,7 @@ table_fails st s rest index by reference is at operands may =
 
 pub table_asks : (st : State) (s : StackParts) (rest : List Instr) (index by : ℕ) (reference : Reference) (have : ℕ) → IsStacked s → length s.values ≡ have
     → s.top.rest ≡ TableGrow index ∷ rest → top_growth (own_stack s) ≡ Some (by, reference) → table_growable (slice_get st.tables index) by reference ≡ Some true
-    → Asked (step st (stacks_term s)) (AskingTable index by reference) 2 (stepped s rest have)
+    → HasAsked (step st (stacks_term s)) (AskingTable index by reference) 2 (stepped s rest have)
 unfolding table_effect
 table_asks st s rest index by reference have is len at operands may =
     let long : s.top.height + 2 ≤ length s.values = growth_long s by reference operands in

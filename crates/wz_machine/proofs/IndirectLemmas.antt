@@ -23,7 +23,7 @@ use Rattle.wz_machine.specs.Flat.{locals_in}
 use Rattle.wz_machine.specs.Stacks.{StackParts, opened_of, stacks_term, IsStacked}
 use Rattle.wz_machine.specs.Standings.{AskingHost}
 use Rattle.wz_machine.specs.Turns.{own_of}
-use Rattle.wz_machine.specs.Asks.{ComesTo, Asked, stepped, own_stack, top_number}
+use Rattle.wz_machine.specs.Asks.{ComesTo, HasAsked, stepped, own_stack, top_number}
 use Rattle.wz_machine.proofs.ListLemmas.{drop-own}
 use Rattle.wz_machine.proofs.AskLemmas.{instr_comes, trapped_step, stuck_step, args_few, comes_taken, asked_host}
 use Rattle.wz_machine.proofs.GrowAskLemmas.{number_on, number_long}
@@ -51,7 +51,7 @@ host_few s type id have within lt =
 
 pub host_asked : (s : StackParts) (rest : List Instr) (type : FunctionType) (id have : ℕ) → IsStacked s → have ≤ length s.values → s.top.height + length type.params ≤ have
     → (st : State) → ComesTo st s rest (host_call type id (own_of s have))
-    → Asked (step st (stacks_term s)) (AskingHost (target.Foreign id) type) (length type.params) (stepped s rest have)
+    → HasAsked (step st (stacks_term s)) (AskingHost (target.Foreign id) type) (length type.params) (stepped s rest have)
 host_asked s rest type id have is within own st comes =
     asked_host s rest (target.Foreign id) type have is within own st
     (comes_taken s rest type (λ arguments below. Does (Poses (AskHost (target.Foreign id) arguments type) below)) have within own st comes)

@@ -9,7 +9,7 @@ use Rattle.wz_machine.specs.declared.stacks.Opened.{Opened}
 use Rattle.wz_machine.specs.declared.stacks.Stacks.TheInside.{Inside}
 use Rattle.wz_machine.specs.Stacks.{EntryKind, CallEntry, BlockEntry, LoopEntry, Entry, StackParts, HasRoom, IsBlockIn, IsCallIn, IsKindIn, IsOutermost, AreStacked, IsStacked}
 use Rattle.wz_machine.specs.Kept.{entry_of, stack_parts, AreKept}
-use Rattle.wz_machine.specs.Opening.{IsBlockKind, block_in, with_block, stepped}
+use Rattle.wz_machine.specs.Opening.{IsBlockKind, block_in, with_block_opened, stepped}
 use Rattle.wz_machine.specs.Landing.{IsLeft, IsAgain}
 use Rattle.wz_machine.proofs.ListLemmas.{drop-back}
 
@@ -78,7 +78,7 @@ stacked-moved child rest [] h = record { kind = h.kind; depth = h.depth; frames 
 stacked-moved child rest (parent ∷ parents) h = (kind-moved child.kind child parent rest h.0, h.1, h.2, h.3)
 
 pub with_block-stacked : (s : StackParts) (rest : List Instr) (kind : EntryKind) (code : List Instr) (have params arity : ℕ)
-    → IsBlockKind kind → have ≤ length s.values → s.top.height + params ≤ have → IsStacked s → IsStacked (with_block s rest kind code have params arity)
+    → IsBlockKind kind → have ≤ length s.values → s.top.height + params ≤ have → IsStacked s → IsStacked (with_block_opened s rest kind code have params arity)
 with_block-stacked s rest kind code have params arity block within own stacked =
     let around : Entry = record s.top { rest = rest } in
     let new : Entry = block_in s.top kind code arity (have - params) in

@@ -27,14 +27,14 @@ abbrev pub stepped : StackParts → List Instr → ℕ → StackParts
 stepped s rest have = record { top = record s.top { rest = rest }; outer = s.outer; values = take have s.values }
 
 -- the term waits with this question, whose operands are so many of the last values
-pub record Asked (answer : Answer) (asking : Asking) (count : ℕ) (now : StackParts) : Type 0 where
+pub record HasAsked (answer : Answer) (asking : Asking) (count : ℕ) (now : StackParts) : Type 0 where
   pub asks : answer ≡ Ask (question_of asking (last_values count now.values)) (stacks_term (without count now))
   pub operands : HasOperands count (StacksWork now)
   pub answerable : IsAnswerable asking count (StacksWork now)
 
 -- the same, where the stacks still stand before the instruction, of whose values so many stay
 pub record AskedAt (answer : Answer) (asking : Asking) (count have : ℕ) (before : StackParts) (rest : List Instr) (now : StackParts) : Type 0 where
-  pub asked : Asked answer asking count (stepped before rest have)
+  pub asked : HasAsked answer asking count (stepped before rest have)
   pub own : before.top.height ≤ have
   pub values : have ≤ length before.values
   pub same : now ≡ before

@@ -6,14 +6,14 @@ use Rattle.wz_machine.specs.declared.stacks.Kind.TheVariants as kind
 use Rattle.wz_machine.specs.declared.stacks.Opened.{Opened}
 use Rattle.wz_machine.specs.Stacks.{EntryKind, CallEntry, BlockEntry, LoopEntry, Entry, StackParts, IsStacked}
 
-abbrev pub kind_of : Kind → EntryKind
-kind_of kind.Call = CallEntry
-kind_of kind.Block = BlockEntry
-kind_of (kind.Loop again) = LoopEntry again.now
+abbrev pub entry_kind : Kind → EntryKind
+entry_kind kind.Call = CallEntry
+entry_kind kind.Block = BlockEntry
+entry_kind (kind.Loop again) = LoopEntry again.now
 
 abbrev pub entry_of : Opened → Entry
 entry_of opened = record {
-  kind = kind_of opened.kind;
+  kind = entry_kind opened.kind;
   body = opened.body.now;
   rest = opened.rest.now;
   arity = opened.arity;

@@ -27,8 +27,8 @@ block_in around kind code arity base = record {
 }
 
 -- This is left of the block around it, so many values stay, and the new block takes so many of them.
-abbrev pub with_block : StackParts → List Instr → EntryKind → List Instr → ℕ → ℕ → ℕ → StackParts
-with_block s rest kind code have params arity = record {
+abbrev pub with_block_opened : StackParts → List Instr → EntryKind → List Instr → ℕ → ℕ → ℕ → StackParts
+with_block_opened s rest kind code have params arity = record {
   top = block_in s.top kind code arity (have - params);
   outer = record s.top { rest = rest } ∷ s.outer;
   values = take have s.values;

@@ -9,7 +9,7 @@ use Rattle.wz_machine.specs.Outcomes.{Answer, Next, Trap, Stuck}
 use Rattle.wz_machine.specs.Stacks.{StackParts, stacks_term}
 use Rattle.wz_machine.specs.Keeping.{asking_of}
 use Rattle.wz_machine.specs.Turns.{Ended}
-use Rattle.wz_machine.specs.Asks.{Asked, stepped}
+use Rattle.wz_machine.specs.Asks.{HasAsked, stepped}
 use Rattle.wz_machine.specs.Standings.{Asking}
 
 -- the term goes on, with this change of the store
@@ -20,7 +20,7 @@ pub record Gone (answer : Answer) (s : StoreState) (now : StackParts) (t : Store
 
 -- The term will wait with this question as soon as it is stepped over the instruction: this is left then, and so many values stay.
 pub record WillAsk (answer : Answer) (before : StackParts) (asking : Asking) (count : ℕ) (rest : List Instr) (have : ℕ) : Type 0 where
-  pub asked : Asked answer asking count (stepped before rest have)
+  pub asked : HasAsked answer asking count (stepped before rest have)
   pub own : before.top.height ≤ have
   pub values : have ≤ length before.values
 

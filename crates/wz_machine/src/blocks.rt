@@ -1,8 +1,8 @@
 //! Blocks that are entered (Core Specification 2.0, sections 4.4.8 and 4.4.9).
 
 ghost use Rattle.std.specs.Prelude.{◌≡◌, ◌+◌, ◌≤◌, length, OnOk, OnErr};
-ghost use Rattle.wz_machine.specs.Kept.{kind_of};
-ghost use Rattle.wz_machine.specs.Opening.{IsBlockKind, with_block};
+ghost use Rattle.wz_machine.specs.Kept.{entry_kind};
+ghost use Rattle.wz_machine.specs.Opening.{IsBlockKind, with_block_opened};
 
 use crate::stacks::{Kind, Opened, Stacks};
 use std::alloc::AllocError;
@@ -19,11 +19,11 @@ impl<'m> Stacks<'m> {
         params: usize,
         arity: usize,
     ) -> Result<(), AllocError>
-        requires block { IsBlockKind (kind_of kind) }
+        requires block { IsBlockKind (entry_kind kind) }
         requires values { have ≤ length self.old.values }
         requires own { self.old.top.height + params ≤ have }
         ensures entered { OnOk result (self.new ≡
-            with_block self.old rest.now (kind_of kind.entry) code.now have params arity) }
+            with_block_opened self.old rest.now (entry_kind kind.entry) code.now have params arity) }
         ensures refused { OnErr result (self.new ≡ self.old) }
     {
         let mut around = self.top;

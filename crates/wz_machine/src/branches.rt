@@ -2,7 +2,7 @@
 //! to 4.4.10).
 
 ghost use Rattle.std.specs.Prelude.{◌≡◌, ◌+◌, ◌≤◌, ◌<◌, [], ◌∷◌, Some, length, map, reverse, slice_get, MatchBool};
-ghost use Rattle.wz_machine.specs.Kept.{entry_of, kind_of};
+ghost use Rattle.wz_machine.specs.Kept.{entry_of, entry_kind};
 ghost use Rattle.wz_machine.specs.Stacks.{CallEntry, LoopEntry, IsStacked};
 ghost use Rattle.wz_machine.specs.Landing.{landing, ending, IsLeft, IsAgain};
 ghost use Rattle.wz_machine.specs.Turns.{Turned, TurnedAnywhere, JumpTurned, ReturnTurned, own_of};
@@ -28,8 +28,8 @@ fn entry_at<'m>(outer: &[Opened<'m>], top: Opened<'m>, label: usize) -> Opened<'
 /// Whether this is a call with another number of values than its results.
 #[inline]
 fn has_other(kind: Kind<'_>, count: usize, results: usize) -> bool
-    ensures { MatchBool result ((kind_of kind.entry ≡ CallEntry) × (count ≡ results → ⊥))
-        (kind_of kind.entry ≡ CallEntry → count ≡ results) }
+    ensures { MatchBool result ((entry_kind kind.entry ≡ CallEntry) × (count ≡ results → ⊥))
+        (entry_kind kind.entry ≡ CallEntry → count ≡ results) }
 {
     match kind {
         Kind::Call => count != results,
@@ -70,7 +70,7 @@ impl<'m> Stacks<'m> {
         requires label { label < length self.old.outer }
         requires target { slice_get (self.old.top ∷ self.old.outer) label ≡
             Some (entry_of target) }
-        requires again { kind_of target.kind ≡ LoopEntry again.now }
+        requires again { entry_kind target.kind ≡ LoopEntry again.now }
         requires values { have ≤ length self.old.values }
         requires carried { target.base + count ≤ have }
         ensures { IsAgain self.old label (entry_of target.entry) again.now have count self.new }
@@ -142,7 +142,7 @@ impl<'m> Stacks<'m> {
     #[inline]
     pub fn innermost(&self) -> Opened<'m>
         ensures entry { entry_of result ≡ self.now.top }
-        ensures kind { kind_of result.kind ≡ self.now.top.kind }
+        ensures kind { entry_kind result.kind ≡ self.now.top.kind }
         ensures rest { result.rest.now ≡ self.now.top.rest }
         ensures arity { result.arity ≡ self.now.top.arity }
         ensures base { result.base ≤ result.height }

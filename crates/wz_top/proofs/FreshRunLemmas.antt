@@ -17,7 +17,7 @@ use Rattle.wz_machine.specs.Next.{next}
 use Rattle.wz_machine.specs.CallSteps.{starting_locals}
 use Rattle.wz_machine.specs.Entered.{entered, entered_callable, entered_body}
 use Rattle.wz_machine.specs.Replies.{put, put_inside}
-use Rattle.wz_init.specs.Run.{Stop, RunEnd, Returned, Stopped, too_much, within_limits, TableWouldChange, is_granted, growth_change, growth_value, pages_at, run_question, run_on, run_from, run_standing, run}
+use Rattle.wz_init.specs.Run.{Stop, RunEnd, Returned, Stopped, too_much, within_limits, TableWouldChange, is_granted, granted_growth, growth_value, pages_at, run_question, run_on, run_from, run_standing, run}
 use Rattle.wz_machine.specs.Advance.{head_changes_table}
 use Rattle.wz_init.specs.declared.order.Phase.{Phase}
 use Rattle.wz_init.specs.Ready.{Ready, Reached, phase_end, phases_run}
@@ -76,7 +76,7 @@ kept_on s change h f = record { own = own_on s change h.own f; whole = whole_on 
 
 -- ---- growth that is granted
 
-growth_kept : (s : State) (index by : ℕ) → IsKept s → IsKept (applied (growth_change s index by) s)
+growth_kept : (s : State) (index by : ℕ) → IsKept s → IsKept (applied (granted_growth s index by) s)
 growth_kept s index by h = by_test (is_granted s by)
   where
     by_test : (b : Bool) → IsKept (applied (if b then GrowMemory index by else Nothing) s)
@@ -116,7 +116,7 @@ question_kept : (on : State → Term → RunEnd) (last : State) (fuel ticks : �
     → IsKept s → TermOwn rest → run_question on s rest q ≡ Returned last fuel ticks → IsKept last
 question_kept on last fuel ticks lead s rest (AskFloat op operands) h k e = absurd (cc e)
 question_kept on last fuel ticks lead s rest (AskMemory index by) h k e =
-    lead (applied (growth_change s index by) s) (put (growth_value s index by ∷ []) rest) (growth_kept s index by h)
+    lead (applied (granted_growth s index by) s) (put (growth_value s index by ∷ []) rest) (growth_kept s index by h)
     (put_own (growth_value s index by ∷ []) rest (growth_value_own s index by, tt) k) e
 question_kept on last fuel ticks lead s rest (AskTable index by reference) h k e = absurd (cc e)
 question_kept on last fuel ticks lead s rest (AskHost (target.Import number) arguments type) h k e = absurd (cc e)

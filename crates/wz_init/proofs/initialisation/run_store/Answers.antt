@@ -2,7 +2,7 @@ use Rattle.std.proofs.Common.{◌≡◌, ◌∙◌, sym, ap, subst}
 use Rattle.wz_module.specs.Meaning.{module_of}
 use Rattle.wz_machine.specs.State.{State}
 use Rattle.wz_machine.specs.Machines.{machine_state, machine_stack}
-use Rattle.wz_init.specs.Ready.{Ready, Reached, IsRefusedBy}
+use Rattle.wz_init.specs.Ready.{Ready, Reached, IsFaultOf}
 use Rattle.wz_init.proofs.BeginLemmas.{machine_is, begun, begun_sound, begun_ended, begun_small, begun_takes, begun_ready}
 use Rattle.wz_init.proofs.initialisation.run_store.Goals as goal
 
@@ -56,4 +56,4 @@ returns-clause-refused g c =
     let s = machine_state c.new-machine.result in
     let b = begun c.states_by_bodies.ensures c.reached_states.ensures.fresh m c.new-machine.result c.bodies.result.now c.args.store c.requires.valid c.requires.profile
     c.new-machine.ensures.bodies c.bodies.ensures c.new-machine.ensures.store c.requires.fresh in
-    subst (λ (e : Ready). IsRefusedBy e c.in-Err.fault) (sym (begun_ready m s c.start.result c.args.order.now b c.start.ensures)) c.in-Err.ensures.refused
+    subst (λ (e : Ready). IsFaultOf e c.in-Err.fault) (sym (begun_ready m s c.start.result c.args.order.now b c.start.ensures)) c.in-Err.ensures.refused

@@ -1,7 +1,7 @@
 use Rattle.std.proofs.Common.{◌≡◌, ◌-◌, ◌+◌, ◌∷◌, ◌++◌, ℕ, Option, IfOk, IfErr, subst, sym}
 use Rattle.wz_init.specs.Reached.{IsSound}
 use Rattle.wz_init.specs.Run.{Returned, run}
-use Rattle.wz_init.specs.Ready.{phase_of, phases_run, IsRefusedBy}
+use Rattle.wz_init.specs.Ready.{phase_of, phases_run, IsFaultOf}
 use Rattle.wz_init.specs.Turns.{FunctionsAreSmall, KeepsTakingNothing, StopsBy}
 use Rattle.wz_init.proofs.PhaseLemmas.{ok_on, err_on, sound_on, small_on, taken_on, phase_returns, phase_stops}
 use Rattle.wz_init.proofs.phases.run_phase.Goals as goal
@@ -39,9 +39,9 @@ returns-in-Some-clause-stopped g c =
     let s = g.S.Steps.state c.args.machine.now in
     let fuel = c.args.fuel in
     λ ticks later.
-    subst (λ (o : Option ℕ). IfErr c.run_function.result (λ fault. IsRefusedBy (phases_run (phase_of c.args.phase o ++ later) s fuel ticks) fault)) (sym c.in-Some.is)
+    subst (λ (o : Option ℕ). IfErr c.run_function.result (λ fault. IsFaultOf (phases_run (phase_of c.args.phase o ++ later) s fuel ticks) fault)) (sym c.in-Some.is)
     (err_on c.run_function.result (λ fault. StopsBy c.args.phase (run s c.in-Some.function fuel ticks) fault)
-    (λ fault. IsRefusedBy (phases_run ((c.args.phase, c.in-Some.function) ∷ later) s fuel ticks) fault)
+    (λ fault. IsFaultOf (phases_run ((c.args.phase, c.in-Some.function) ∷ later) s fuel ticks) fault)
     (λ fault h. phase_stops c.args.phase c.in-Some.function later s fuel ticks fault h) (c.run_function.ensures.stopped ticks))
 
 pub returns-in-Some-clause-taken : goal.returns-in-Some-clause-taken

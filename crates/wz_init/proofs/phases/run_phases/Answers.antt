@@ -1,7 +1,7 @@
 use Rattle.std.proofs.Common.{◌≡◌, ◌-◌, ◌+◌, ◌≤◌, ◌∷◌, ◌++◌, [], ℕ, List, subst, sym, ap, ◌∙◌, arith}
 use Rattle.wz_init.specs.declared.order.Phase.{Phase}
 use Rattle.wz_init.specs.declared.order.Phase.TheVariants as phase
-use Rattle.wz_init.specs.Ready.{Ready, Reached, phase_of, IsRefusedBy}
+use Rattle.wz_init.specs.Ready.{Ready, Reached, phase_of, IsFaultOf}
 use Rattle.wz_init.proofs.PhaseLemmas.{no_phase}
 use Rattle.wz_init.proofs.phases.run_phases.Goals as goal
 
@@ -14,7 +14,7 @@ pub returns-in-Err-run_phase-clause-refused : goal.returns-in-Err-run_phase-clau
 returns-in-Err-run_phase-clause-refused g c =
     let last : List (Phase × ℕ) = (phase.Init, c.args.order.now.function) ∷ [] in
     let fuel = c.args.order.now.fuel in
-    subst (λ (e : Ready). IsRefusedBy e c.in-Err-run_phase.fault)
+    subst (λ (e : Ready). IsFaultOf e c.in-Err-run_phase.fault)
     (sym (c.in-Ok.ensures.returned 0 (phase_of phase.Reactor c.args.order.now.reactor ++ last)))
     (c.in-Err-run_phase.ensures.stopped (0 + (fuel - c.in-Ok.left)) last)
 
@@ -41,6 +41,6 @@ returns-in-Err-run_phase-2-clause-refused g c =
     let first = c.in-Ok.left in
     let second = c.in-Ok-run_phase.left in
     let made = 0 + (fuel - first) + (first - second) in
-    subst (λ (e : Ready). IsRefusedBy e c.in-Err-run_phase-2.fault)
+    subst (λ (e : Ready). IsFaultOf e c.in-Err-run_phase-2.fault)
     (sym (c.in-Ok.ensures.returned 0 (phase_of phase.Reactor c.args.order.now.reactor ++ last) ∙ c.in-Ok-run_phase.ensures.returned (0 + (fuel - first)) last))
     (c.in-Err-run_phase-2.ensures.stopped made [])
