@@ -20,7 +20,7 @@ use Rattle.wz_machine.specs.Machines.{MachineParts, machine_state, machine_stack
 use Rattle.wz_machine.specs.Laws.{ChangeReachesState}
 use Rattle.wz_machine.specs.declared.advance.Advance.{Advance}
 use Rattle.wz_machine.specs.Advance.{IsAdvance, StackAdvanced}
-use Rattle.wz_init.specs.Turns.{top_term, IsAlone, IsTicked, HasGone, HasAdvanced}
+use Rattle.wz_init.specs.Turns.{top_term, IsAlone, IsTicked, HasTicked, HasAdvanced}
 use Rattle.wz_init.specs.Events.{turned_by}
 
 -- ---- replies
@@ -63,7 +63,7 @@ ticked law old new tick alone event reply =
 -- ---- many ticks
 
 gone_by : (entered : Bool) (limit made : ℕ) (s after : State) (term new : Term) → IsAdvance entered limit made s term after new
-    → HasGone entered made s term after new
+    → HasTicked entered made s term after new
 gone_by true limit made s after term new steps = steps
 gone_by false limit made s after term new steps = steps.0
 
@@ -78,7 +78,7 @@ advanced done limit s after before stack alone h =
     let top : new ≡ top_term stack = sym (ap (λ (x : List Standing). top_term x) stands) in
     record {
       alone = stands ∙ ap (λ (t : Term). Runs t ∷ []) top;
-      ticks = subst (λ (t : Term). HasGone done.entered done.made s term after t) top (gone_by done.entered limit done.made s after term new steps.2.2);
+      ticks = subst (λ (t : Term). HasTicked done.entered done.made s term after t) top (gone_by done.entered limit done.made s after term new steps.2.2);
     }
 
 -- ---- the pages of memories, added up one by one

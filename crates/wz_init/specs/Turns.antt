@@ -147,13 +147,13 @@ IsBeyond term fault.Stuck = ⊥
 IsBeyond term fault.NoMemory = ⊥
 
 -- so many ticks went on, and the last of them entered a function, or none did
-abbrev pub HasGone : Bool → ℕ → State → Term → State → Term → Type 0
-HasGone true made s term after new = ReachesEntry made s term after new
-HasGone false made s term after new = Reaches made s term after new
+abbrev pub HasTicked : Bool → ℕ → State → Term → State → Term → Type 0
+HasTicked true made s term after new = ReachesEntry made s term after new
+HasTicked false made s term after new = Reaches made s term after new
 
 pub record HasAdvanced (done : Advance) (s : State) (term : Term) (after : State) (stack : List Standing) : Type 0 where
   pub alone : IsAlone stack
-  pub ticks : HasGone done.entered done.made s term after (top_term stack)
+  pub ticks : HasTicked done.entered done.made s term after (top_term stack)
 
 -- what is left of a run of so much fuel after a round of ticks
 abbrev pub IsRound : Round → ℕ → State → Term → State → List Standing → Type 0

@@ -22,8 +22,8 @@ impl<'m> Stacks<'m> {
         requires block { IsBlockKind (entry_kind kind) }
         requires values { have ≤ length self.old.values }
         requires own { self.old.top.height + params ≤ have }
-        ensures entered { OnOk result (self.new ≡
-            with_block_opened self.old rest.now (entry_kind kind.entry) code.now have params arity) }
+        ensures entered { let opened = entry_kind kind.entry in OnOk result (self.new ≡
+            with_block_opened self.old rest.now opened code.now have params arity) }
         ensures refused { OnErr result (self.new ≡ self.old) }
     {
         let mut around = self.top;

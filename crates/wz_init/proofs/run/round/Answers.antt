@@ -2,7 +2,7 @@ use Rattle.std.proofs.Common.{◌≡◌, ◌-◌, ◌+◌, ◌<◌, ◌≤◌, �
 use Rattle.std.specs.Bool.{OnTrue, OnFalse}
 use Rattle.wz_machine.specs.Advance.{Reaches, ReachesEntry}
 use Rattle.wz_init.specs.Run.{RunEnd, Returned, run_from}
-use Rattle.wz_init.specs.Turns.{top_term, IsTurned, IsRunning, HasEnded, HasGone, StopsBy}
+use Rattle.wz_init.specs.Turns.{top_term, IsTurned, IsRunning, HasEnded, HasTicked, StopsBy}
 use Rattle.wz_init.proofs.TurnLemmas.{reached_run, reached_running, entry_some, entered_run, entered_beyond, entered_running, round_spent, round_then}
 use Rattle.wz_init.proofs.run.round.Goals as goal
 
@@ -17,7 +17,7 @@ returns-in-Ok-clause-went g c =
     let few : made ≤ fuel = c.in_ok-done.ensures.limit in
     let whole : fuel ≡ made + (fuel - made) = omega (arith, few) in
     let ticked : ReachesEntry made s term mid (top_term stack) =
-    subst (λ (b : Bool). HasGone b made s term mid (top_term stack)) c.if-done.true c.in_ok-done.ensures.made.ticks in
+    subst (λ (b : Bool). HasTicked b made s term mid (top_term stack)) c.if-done.true c.in_ok-done.ensures.made.ticks in
     let some : 0 < made = entry_some made s mid term (top_term stack) ticked in
     let all : made ≡ fuel - (fuel - made) = omega (arith, few) in (
       omega (arith, some, few),
@@ -38,7 +38,7 @@ returns-in-Err-clause-stopped g c =
     let few : made ≤ fuel = c.in_ok-done.ensures.limit in
     let whole : fuel ≡ made + (fuel - made) = omega (arith, few) in
     let ticked : ReachesEntry made s term mid (top_term stack) =
-    subst (λ (b : Bool). HasGone b made s term mid (top_term stack)) c.if-done.true c.in_ok-done.ensures.made.ticks in
+    subst (λ (b : Bool). HasTicked b made s term mid (top_term stack)) c.if-done.true c.in_ok-done.ensures.made.ticks in
     λ ticks.
     entered_beyond made s mid term stack ticked c.requires.running.within fuel (fuel - made) whole c.args.phase c.in-Err.fault c.in-Err.ensures.beyond ticks
 
@@ -53,7 +53,7 @@ returns-then-left-eq0-clause-went g c =
     let few : made ≤ fuel = c.in_ok-done.ensures.limit in
     let whole : fuel ≡ made + (fuel - made) = omega (arith, few) in
     let ticked : Reaches made s term mid (top_term stack) =
-    subst (λ (b : Bool). HasGone b made s term mid (top_term stack)) c.if-done.false c.in_ok-done.ensures.made.ticks in (
+    subst (λ (b : Bool). HasTicked b made s term mid (top_term stack)) c.if-done.false c.in_ok-done.ensures.made.ticks in (
       c.requires.some,
       reached_running made s mid term stack ticked c.requires.running.within c.in_ok-done.ensures.made.alone c.requires.running.own c.requires.running.holds,
       λ ticks. round_spent fuel made ticks s mid term (top_term stack) c.if-left-eq0.true few (reached_run made s mid term stack ticked c.requires.running.within fuel (fuel - made) whole ticks),
@@ -70,7 +70,7 @@ turn-requires g c =
     let few : made ≤ fuel = c.in_ok-done.ensures.limit in
     let whole : fuel ≡ made + (fuel - made) = omega (arith, few) in
     let ticked : Reaches made s term mid (top_term stack) =
-    subst (λ (b : Bool). HasGone b made s term mid (top_term stack)) c.if-done.false c.in_ok-done.ensures.made.ticks in
+    subst (λ (b : Bool). HasTicked b made s term mid (top_term stack)) c.if-done.false c.in_ok-done.ensures.made.ticks in
     reached_running made s mid term stack ticked c.requires.running.within c.in_ok-done.ensures.made.alone c.requires.running.own c.requires.running.holds
 
 pub returns-in-Ok-true-clause-went : goal.returns-in-Ok-true-clause-went
@@ -84,7 +84,7 @@ returns-in-Ok-true-clause-went g c =
     let few : made ≤ fuel = c.in_ok-done.ensures.limit in
     let whole : fuel ≡ made + (fuel - made) = omega (arith, few) in
     let ticked : Reaches made s term mid (top_term stack) =
-    subst (λ (b : Bool). HasGone b made s term mid (top_term stack)) c.if-done.false c.in_ok-done.ensures.made.ticks in
+    subst (λ (b : Bool). HasTicked b made s term mid (top_term stack)) c.if-done.false c.in_ok-done.ensures.made.ticks in
     let last = g.S.Steps.state c.turn.new.machine in
     let now = g.S.Steps.stack c.turn.new.machine in
     let rest = fuel - made - 1 in
@@ -109,7 +109,7 @@ returns-in-Ok-false-clause-went g c =
     let few : made ≤ fuel = c.in_ok-done.ensures.limit in
     let whole : fuel ≡ made + (fuel - made) = omega (arith, few) in
     let ticked : Reaches made s term mid (top_term stack) =
-    subst (λ (b : Bool). HasGone b made s term mid (top_term stack)) c.if-done.false c.in_ok-done.ensures.made.ticks in
+    subst (λ (b : Bool). HasTicked b made s term mid (top_term stack)) c.if-done.false c.in_ok-done.ensures.made.ticks in
     let last = g.S.Steps.state c.turn.new.machine in
     let now = g.S.Steps.stack c.turn.new.machine in
     let rest = fuel - made - 1 in
@@ -134,7 +134,7 @@ returns-in-Err-turn-clause-stopped g c =
     let few : made ≤ fuel = c.in_ok-done.ensures.limit in
     let whole : fuel ≡ made + (fuel - made) = omega (arith, few) in
     let ticked : Reaches made s term mid (top_term stack) =
-    subst (λ (b : Bool). HasGone b made s term mid (top_term stack)) c.if-done.false c.in_ok-done.ensures.made.ticks in
+    subst (λ (b : Bool). HasTicked b made s term mid (top_term stack)) c.if-done.false c.in_ok-done.ensures.made.ticks in
     let last = g.S.Steps.state c.turn.new.machine in
     let now = g.S.Steps.stack c.turn.new.machine in
     let rest = fuel - made - 1 in
