@@ -1,6 +1,6 @@
 //! One page of a memory.
 
-ghost use Rattle.std.specs.Prelude.{◌≡◌, ◌+◌, ◌^◌, ◌<◌, ◌≤◌, [], length, replicate, IfSome, OnOk, OnErr};
+ghost use Rattle.std.specs.Prelude.{◌≡◌, ◌+◌, ◌^◌, ◌<◌, ◌≤◌, [], length, replicate, IsTrue, IsSome, IfSome, OnOk, OnErr};
 ghost use Rattle.std.specs.Bool.{OnTrue, OnFalse};
 ghost use Rattle.std.specs.List.{All};
 ghost use Rattle.wz_linear.specs.Bytes.{IsAccessWidth, number_of, bytes_of, part, written};
@@ -94,10 +94,13 @@ impl Page {
         }
     }
 
-    /// Whether a range is known to hold zeros alone.
+    /// Whether a range holds zeros alone.
     pub fn has_zeros(&self, at: usize, count: usize) -> bool
         requires { at + count ≤ 65536 }
-        ensures { OnTrue result (All (λ byte. byte ≡ 0) (part (memory_of_page self.now) at count)) }
+        ensures zeros { OnTrue result
+            (All (λ byte. byte ≡ 0) (part (memory_of_page self.now) at count)) }
+        ensures exact { All (λ byte. byte ≡ 0) (part (memory_of_page self.now) at count)
+            → IsTrue result }
     {
         if self.bytes.len() == 0 {
             return true;
@@ -140,6 +143,7 @@ impl Page {
     pub fn load(&self, at: usize, width: u32) -> Option<u64>
         requires width { IsAccessWidth width }
         requires within { at < 65536 }
+        ensures there { at + width ≤ length self.now → IsSome result }
         ensures inside { IfSome result (λ _. at + width ≤ 65536) }
         ensures found { IfSome result
             (λ number. number ≡ number_of (part (memory_of_page self.now) at width)) }
@@ -157,6 +161,7 @@ impl Page {
     pub fn store(&mut self, at: usize, value: u64, width: u32) -> bool
         requires width { IsAccessWidth width }
         requires within { at < 65536 }
+        ensures there { at + width ≤ length self.old → IsTrue result }
         ensures inside { OnTrue result (at + width ≤ 65536) }
         ensures stored { OnTrue result (memory_of_page self.new
             ≡ written (memory_of_page self.old) at (bytes_of width value)) }
@@ -243,6 +248,7 @@ fn put_number_in(bytes: &mut Vec<u8>, at: usize, value: u64, width: u32)
 /// Whether all bytes are zero.
 pub fn are_zeros(bytes: &[u8]) -> bool
     ensures zeros { OnTrue result (All (λ byte. byte ≡ 0) bytes.now) }
+    ensures exact { All (λ byte. byte ≡ 0) bytes.now → IsTrue result }
 {
     bytes.iter().all(|byte| *byte == 0)
 }
@@ -250,7 +256,8 @@ pub fn are_zeros(bytes: &[u8]) -> bool
 /// Whether all bytes of a range are zero.
 fn have_zeros(bytes: &[u8], at: usize, count: usize) -> bool
     requires { at + count ≤ length bytes.now }
-    ensures { OnTrue result (All (λ byte. byte ≡ 0) (part bytes.now at count)) }
+    ensures zeros { OnTrue result (All (λ byte. byte ≡ 0) (part bytes.now at count)) }
+    ensures exact { All (λ byte. byte ≡ 0) (part bytes.now at count) → IsTrue result }
 {
     are_zeros(&bytes[at..at + count])
 }
