@@ -142,7 +142,7 @@ own_value m context (InIf shape first second rest) type reads h = absurd h
 -- ---- what is allocated
 
 -- each item of what is made of a list is made of an item of it
-each_from : {X Y : Type 0} (f : X → Option Y) (P : X → Type 0) (Q : Y → Type 0) → ((x : X) (y : Y) → P x → f x ≡ Some y → Q y)
+pub each_from : {X Y : Type 0} (f : X → Option Y) (P : X → Type 0) (Q : Y → Type 0) → ((x : X) (y : Y) → P x → f x ≡ Some y → Q y)
     → (xs : List X) → All P xs → (ys : List Y) → each_of f xs ≡ Some ys → (i : ℕ) (y : Y) → slice_get ys i ≡ Some y → Q y
 each_from {X = X} {Y = Y} f P Q one [] h ys e i y here = let same : [] ≡ ys = cc e in absurd (none ys same i y here)
   where
@@ -383,7 +383,7 @@ datas_first was m index (x ∷ segments) s now h e =
     then_first was now (λ next. datas_run m (index + 1) segments next) (data_run m index (length x.bytes) x.mode s)
     (λ mid ran. data_first was m index (length x.bytes) x.mode s mid h ran) (λ mid k e. datas_first was m (index + 1) segments mid now k e) e
 
-segments_first : (was : State) (m : Module) (s now : State) → IsFirst was s → segments_run m s ≡ Instance now → IsFirst was now
+pub segments_first : (was : State) (m : Module) (s now : State) → IsFirst was s → segments_run m s ≡ Instance now → IsFirst was now
 segments_first was m s now h e =
     then_first was now (λ next. datas_run m 0 m.datas next) (elements_run m 0 m.elements s) (λ mid ran. elements_first was m 0 m.elements s mid h ran)
     (λ mid k e. datas_first was m 0 m.datas mid now k e) e
@@ -438,7 +438,7 @@ few_pages m profile =
     subst (λ (n : ℕ). n ≤ pages_limit) (sym (new_pages m.memories))
     (subst (λ (ms : List MemType). sum_by (λ memory. memory.limits.min) ms ≤ pages_limit) (own_memories m profile) profile.memories)
 
-was_first : (m : Module) (s : State) → IsInProfile m → ((i : ℕ) → i < length m.memories → IsSomeAnd (slice_get m.memories i) IsMemoryOk) → All (λ g. IsGlobalOk m g) m.globals → All (λ e. IsElemOk m e) m.elements → WasAllocated m (functions_in m) s
+pub was_first : (m : Module) (s : State) → IsInProfile m → ((i : ℕ) → i < length m.memories → IsSomeAnd (slice_get m.memories i) IsMemoryOk) → All (λ g. IsGlobalOk m g) m.globals → All (λ e. IsElemOk m e) m.elements → WasAllocated m (functions_in m) s
     → IsFirst s s
 was_first m s profile sizes globals elements was =
     let all = each_from (λ g. first_global m g) (λ g. IsGlobalOk m g) (λ g. Fits g.content g.type.value (length (functions_in m)) (length m.types) × IsOwn g.content)
@@ -501,7 +501,7 @@ parts_made globals kinds maxima memories elements datas m = record {
   datas = datas;
 }
 
-was_lasting : (m : Module) (s : State) → WasAllocated m (functions_in m) s → lasting_parts s ≡ lasting_of m
+pub was_lasting : (m : Module) (s : State) → WasAllocated m (functions_in m) s → lasting_parts s ≡ lasting_of m
 unfolding parts_made
 was_lasting m s was =
     let kinds = map (λ (table : Table). table.kind) (map new_table m.tables) in
@@ -538,7 +538,7 @@ first_again m first was is = record {
   own = was.left.own;
 }
 
-some_state : (m : Module) (s : State) → fresh m ≡ Instance s → (was : State) × (allocated m (functions_in m) ≡ Some was) × (segments_run m was ≡ Instance s)
+pub some_state : (m : Module) (s : State) → fresh m ≡ Instance s → (was : State) × (allocated m (functions_in m) ≡ Some was) × (segments_run m was ≡ Instance s)
 unfolding fresh instantiated
 some_state m s e = by (allocated m (functions_in m)) e
   where

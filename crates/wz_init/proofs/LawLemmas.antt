@@ -18,7 +18,7 @@ use Rattle.wz_init.specs.Laws.{FreshIsReached, RunIsReached, StateByBodies}
 use Rattle.wz_init.proofs.FirstLemmas.{fresh_left, ready_left}
 
 -- the memories of a valid module
-memories_ok : (m : Module) → IsValid m → (i : ℕ) → i < length m.memories → IsSomeAnd (slice_get m.memories i) IsMemoryOk
+pub memories_ok : (m : Module) → IsValid m → (i : ℕ) → i < length m.memories → IsSomeAnd (slice_get m.memories i) IsMemoryOk
 memories_ok m valid i less = by (slice_get m.memories i) (valid part.Memory i less)
   where
     by : (o : Option MemType) → IsSomeAnd o (λ memory. IsMemoryOk memory × IsOnlyMemory m i) → IsSomeAnd o IsMemoryOk

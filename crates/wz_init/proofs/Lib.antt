@@ -15,3 +15,6 @@ pub mod TickingLemmas
 pub mod SmallLemmas
 pub mod BeginLemmas
 pub mod MaximaLemmas
+pub mod TypedModules
+pub mod TypedFresh
+pub mod TypedRuns

@@ -77,7 +77,7 @@ imports_small bodies number (i ∷ imports) =
     All-append (λ f. IsSmallBody (function_in bodies f).body) (import_function number i.kind) (import_functions (number + 1) imports)
     (import_small bodies number i.kind) (imports_small bodies (number + 1) imports)
 
-all_behind : {X : Type 0} (P : X → Type 0) (xs ys : List X) → All P (xs ++ ys) → All P ys
+pub all_behind : {X : Type 0} (P : X → Type 0) (xs ys : List X) → All P (xs ++ ys) → All P ys
 all_behind P [] ys h = h
 all_behind P (x ∷ xs) ys h = all_behind P xs ys (All-tail P x (xs ++ ys) h)
 
@@ -110,7 +110,7 @@ small_place : (types : List FunctionType) (o : Option FunctionInstance) → ((f 
 small_place types None h = tt
 small_place types (Some f) h = small_callable (slice_get types f.signature) f.body (h f refl)
 
-all_at : {X : Type 0} (P : X → Type 0) (xs : List X) → All P xs → (i : ℕ) (x : X) → slice_get xs i ≡ Some x → P x
+pub all_at : {X : Type 0} (P : X → Type 0) (xs : List X) → All P xs → (i : ℕ) (x : X) → slice_get xs i ≡ Some x → P x
 all_at P xs all i x is = subst P (get_or_from_slice_get xs i x x is) (All-get_or P xs i x (slice_get_within xs i x is) all)
 
 pub functions_small : (m : Module) (s : State) → IsInProfile m → s.functions ≡ functions_in m → FunctionsAreSmall s
@@ -121,7 +121,7 @@ functions_small m s profile same function term is =
 
 -- ---- functions that take nothing
 
-abbrev signatures : List FunctionInstance → List ℕ
+abbrev pub signatures : List FunctionInstance → List ℕ
 signatures fs = map (λ (f : FunctionInstance). f.signature) fs
 
 own_signatures : (bodies : List BodyTree) (number : ℕ) (types : List ℕ) → signatures (map (λ f. function_in bodies f) (own_functions number types)) ≡ types
@@ -146,10 +146,10 @@ all_signatures bodies number (i ∷ imports) own types e =
     (all_signatures bodies (number + 1) imports own types e)
     ∙ sym (append_assoc (function_import i.kind) (imported_functions imports) types)
 
-signatures_in : (m : Module) → signatures (functions_in m) ≡ all_functions m
+pub signatures_in : (m : Module) → signatures (functions_in m) ≡ all_functions m
 signatures_in m = all_signatures m.bodies 0 m.imports (own_functions 0 m.functions) m.functions (own_signatures m.bodies 0 m.functions)
 
-abbrev type_at : List FunctionType → Option ℕ → Option FunctionType
+abbrev pub type_at : List FunctionType → Option ℕ → Option FunctionType
 type_at types None = None
 type_at types (Some number) = slice_get types number
 
@@ -164,7 +164,7 @@ type_from : (types : List FunctionType) (o : Option FunctionInstance) (c : Calla
 type_from types None c e = absurd (none-some c e)
 type_from types (Some f) c e = type_of (slice_get types f.signature) f.body c e
 
-type_in : (m : Module) (function : ℕ) (number : Option ℕ) → slice_get (all_functions m) function ≡ number → function_type (context_of m) function ≡ type_at m.types number
+pub type_in : (m : Module) (function : ℕ) (number : Option ℕ) → slice_get (all_functions m) function ≡ number → function_type (context_of m) function ≡ type_at m.types number
 type_in m function None e = ap (λ (o : Option ℕ). type_at m.types o) e
 type_in m function (Some number) e = ap (λ (o : Option ℕ). type_at m.types o) e
 

@@ -12,3 +12,4 @@ pub mod Laws
 pub mod Events
 pub mod Orders
 pub mod Turns
+pub mod Typed

@@ -2,6 +2,7 @@
 //! of a function that does nothing.
 
 ghost use Rattle.wz_init.specs.Laws.{FreshIsReached, RunIsReached, StateByBodies};
+ghost use Rattle.wz_init.specs.Typed.{FreshIsTyped, RunIsTyped, RunIsNeverStuck};
 
 /// What a valid module's fresh instance holds, and the state that its run reaches: the module's
 /// types, functions, kinds and numbers of parts, tables as instantiation left them, segments as
@@ -19,3 +20,20 @@ pub fn reached_states()
 pub fn states_by_bodies()
     ensures { StateByBodies }
 {}
+
+/// A valid module's fresh instance is typed, and so is the state that its run reaches; and whatever
+/// ends a run, it isn't a step without a rule. Here the bytes of data segments are below 256, and
+/// the functions of the order are of type [] to [].
+pub fn states_are_typed()
+    ensures fresh { FreshIsTyped }
+    ensures run { RunIsTyped }
+    ensures stuck { RunIsNeverStuck }
+{
+    // what a valid module's items and functions are
+    wz_valid::laws::valid_items();
+    wz_valid::laws::valid_functions();
+    // changes, calls and steps keep the typing, and bring no reference to something of the host
+    wz_machine::laws::typed_states();
+    wz_machine::laws::typed_terms();
+    wz_machine::laws::steps_add_no_references();
+}
