@@ -1,8 +1,8 @@
 -- The chosen ranges have together no more bytes than the memories, and with the slots that they take no more than their own.
-use Rattle.std.proofs.Common.{◌≡◌, ℕ, zero, suc, ◌+◌, ◌*◌, ◌-◌, ◌/◌, ◌^◌, ◌<◌, ◌≤◌, List, [], ◌∷◌, ◌++◌, length, take, drop, get_or, map, Bool, true, false, cond, Option, Some, None, refl, sym, ap, subst, ◌∙◌, arith}
+use Rattle.std.proofs.Common.{◌≡◌, ℕ, zero, suc, ◌+◌, ◌*◌, ◌-◌, ◌/◌, ◌<◌, ◌≤◌, List, [], ◌∷◌, length, take, drop, get_or, map, Bool, true, false, cond, Option, Some, None, refl, ap, arith}
 use Rattle.std.specs.Prelude.{slice_get, IsSomeAnd}
 use Rattle.std.specs.List.{All, sum_by}
-use Rattle.std.proofs.lemmas.List.Elements.{All-nil, All-cons, All-head, All-tail, All-take, All-drop}
+use Rattle.std.proofs.lemmas.List.Elements.{All-nil, All-head, All-tail, All-take, All-drop}
 use Rattle.std.proofs.lemmas.List.Sums.{sum_by-cons, sum_by-append, get_or-le-sum_by}
 use Rattle.std.proofs.lemmas.Option.{slice_get-get_or, slice_get_within, get_or_from_slice_get}
 use Rattle.wz_linear.specs.Bytes.{IsWithin, part}
@@ -16,7 +16,7 @@ use Rattle.wz_module.specs.Datas.{DataMode, PassiveData, ActiveData, DataSegment
 use Rattle.wz_encode.specs.Datas.{Slot, PassiveSlot, EmptySlot}
 use Rattle.wz_snapshot.specs.declared.segment.ChosenSegment.{ChosenSegment}
 use Rattle.wz_snapshot.specs.Recorded.{memory_limit, chosen_segment, chosen_in, chosen_from, chosen_segments, pages_together}
-use Rattle.wz_rewrite.specs.OutputState.{bytes_in, range_bytes, HasRange}
+use Rattle.wz_rewrite.specs.OutputState.{bytes_in, HasRange}
 use Rattle.wz_rewrite.specs.Dropped.{was_emptied, is_empty_at}
 use Rattle.wz_rewrite.specs.Slots.{passive_slot, head_of, slots_at, slots_from, with_behind}
 use Rattle.wz_rewrite.specs.Laws.{CanBeRange}
@@ -175,7 +175,7 @@ module _ (memories : List Memory) where
   slots_size marks number [] chosen = let heads = heads_size chosen in omega (arith, heads)
   slots_size marks number (d ∷ datas) chosen =
       let one = at_size d.mode d.bytes (is_empty_at marks number) chosen (λ left. slots_from marks (number + 1) datas left)
-          (sum_by (λ (d : DataSegment). length d.bytes) datas) (λ left. slots_size marks (number + 1) datas left) in
+      (sum_by (λ (d : DataSegment). length d.bytes) datas) (λ left. slots_size marks (number + 1) datas left) in
       let step = sum_by-cons (λ (d : DataSegment). length d.bytes) d datas in
       omega (arith, one, step)
 
@@ -194,5 +194,5 @@ pub slots_count : (marks : List Bool) (number : ℕ) (datas : List DataSegment) 
 slots_count marks number [] chosen = let heads = heads_count chosen in omega (arith, heads)
 slots_count marks number (d ∷ datas) chosen =
     let one = at_count d.mode d.bytes (is_empty_at marks number) chosen (λ left. slots_from marks (number + 1) datas left) (length datas)
-        (λ left. slots_count marks (number + 1) datas left) in
+    (λ left. slots_count marks (number + 1) datas left) in
     omega (arith, one)

@@ -1,26 +1,24 @@
 -- What bytes ask for is to have them pre-initialised: the output is valid, starts where the run ended, and shows the same.
-use Rattle.std.proofs.Common.{◌≡◌, ◌≢◌, ℕ, ◌+◌, ◌-◌, ◌^◌, ◌<◌, ◌≤◌, List, [], length, map, Option, None, Some, Ok, refl, sym, ap, subst, ◌∙◌, inl, inr, arith}
-use Rattle.std.specs.Prelude.{slice_get, Result, Err}
+use Rattle.std.proofs.Common.{◌≡◌, ℕ, ◌+◌, ◌≤◌, List, [], length, map, Option, None, Ok, refl, sym, ap, subst, ◌∙◌, inl, inr, arith}
+use Rattle.std.specs.Prelude.{Result}
 use Rattle.std.specs.List.{All, zip, sum_by}
 use Rattle.std.proofs.lemmas.List.{length-map}
-use Rattle.std.proofs.lemmas.List.Elements.{All-weaker}
 use Rattle.std.proofs.lemmas.Slice.Zip.{length-zip}
 use Rattle.wz_io.specs.Reading.{input_limit}
 use Rattle.wz_types.specs.declared.types.MemType.{MemType}
-use Rattle.wz_types.specs.declared.types.GlobalType.{GlobalType}
 use Rattle.wz_module.specs.Exports.{Export}
 use Rattle.wz_module.specs.Globals.{GlobalDef}
 use Rattle.wz_module.specs.Sections.{payload_of}
 use Rattle.wz_module.specs.Module.{Module}
-use Rattle.wz_decode_sections.specs.ExportSection.{IsExport, IsExportSection}
+use Rattle.wz_decode_sections.specs.ExportSection.{IsExportSection}
 use Rattle.wz_decode.specs.Parts.{HoldsList}
 use Rattle.wz_decode.specs.Spelling.{Spells}
-use Rattle.wz_encode.specs.Laws.{CanBeIndex, CanBeConstant, CanBeExport, target_index}
+use Rattle.wz_encode.specs.Laws.{CanBeIndex, CanBeExport, target_index}
 use Rattle.wz_valid.specs.Indices.{all_functions}
 use Rattle.wz_valid.specs.Validity.{IsValid}
 use Rattle.wz_valid.specs.Profile.{IsInProfile}
 use Rattle.wz_plan.specs.Laws.{PlanRises, PlanIsWithin}
-use Rattle.wz_store.specs.State.{Global, Memory, Element}
+use Rattle.wz_store.specs.State.{Global, Memory}
 use Rattle.wz_machine.specs.State.{State, LastingParts}
 use Rattle.wz_machine.specs.TypedState.{state_context, IsStateTyped}
 use Rattle.wz_machine.specs.TypedLaws.{NeverStuck}
@@ -35,9 +33,7 @@ use Rattle.wz_words.specs.declared.settings.Usage.TheVariants as usage
 use Rattle.wz_words.specs.Settings.{Settings}
 use Rattle.wz_words.specs.Faults.{renames_limit}
 use Rattle.wz_exports.specs.Kept.{KeptExports, kept, kept_exports}
-use Rattle.wz_exports.specs.Undeclared.{undeclared_functions}
-use Rattle.wz_init.specs.declared.order.RunOrder.{RunOrder}
-use Rattle.wz_init.specs.Instances.{Fresh, Instance}
+use Rattle.wz_init.specs.Instances.{Instance}
 use Rattle.wz_init.specs.Instantiation.{fresh}
 use Rattle.wz_init.specs.Ready.{Ready, Reached, StoppedIn, UnfitElement, UnfitData, NeverMade, ready}
 use Rattle.wz_init.specs.Reached.{IsReachedOf}
@@ -48,7 +44,7 @@ use Rattle.wz_rewrite.specs.Slots.{output_slots, filled_slots}
 use Rattle.wz_rewrite.specs.Parts.{global_types, output_memories, memory_of_size}
 use Rattle.wz_rewrite.specs.Output.{rewritten, rewritten_module}
 use Rattle.wz_rewrite.specs.Laws.{CanBeOutput, OutputSpells, InputSpellsElements}
-use Rattle.wz_rewrite.specs.ValidOutput.{AreOfTypes, HasTypesOf, StateHasTypes, IsValidWith, OutputIsValid, HasNoStartSection}
+use Rattle.wz_rewrite.specs.ValidOutput.{HasTypesOf, StateHasTypes, IsValidWith, OutputIsValid, HasNoStartSection}
 use Rattle.wz_rewrite.proofs.NumberLemmas.{all-from-has}
 use Rattle.wz_rewrite.proofs.ContentLemmas.{data_bytes_held}
 use Rattle.wz_rewrite.proofs.BodyLemmas.{entries-kept, targets-kept}
@@ -58,7 +54,7 @@ use Rattle.wz_top.specs.Words.{output_name}
 use Rattle.wz_top.specs.Asked.{Asked, Answers, Delivers, asked_by, BytesAsk, SettingsAsk, OnDone, Ran}
 use Rattle.wz_top.specs.declared.outcome.Outcome.{Outcome}
 use Rattle.wz_top.specs.declared.outcome.Outcome.TheVariants.{Done}
-use Rattle.wz_top.specs.Verdict.{Verdict, Refuses, Gives, order_of, report_of, reached_verdict, RunComes, RunAsks, ExportsAsk, ProfileAsks, ModuleAsks, IsVerdict, IsAccepted}
+use Rattle.wz_top.specs.Verdict.{Verdict, Refuses, Gives, order_of, RunComes, RunAsks, ExportsAsk, ProfileAsks, ModuleAsks, IsVerdict, IsAccepted}
 use Rattle.wz_top.specs.Refusals.{usage_outcome}
 use Rattle.wz_top.specs.FreshOutput.{StartsAs, OutputStartsAsReached}
 use Rattle.wz_top.specs.PreInitialised.{OnPreInitialised, export_instances, ReachesState, PreInitialised, GiveNames, IsWritten, OutputIsWritten, OutputIsPreInitialised}
@@ -234,15 +230,15 @@ module _ (fresh_is : FreshIsReached) (run_is : RunIsReached) (typed : RunIsTyped
         sizes = memories_can (rewritten_module m state k) is_valid.valid;
         globals = as_many_globals;
         constants = (
-            let same = as_many_globals in let count = small.globals in omega (arith, same, count),
-            constants_can m m.globals o.globals has_types.globals has_types.own (omega (arith, few_functions)),
+          let same = as_many_globals in let count = small.globals in omega (arith, same, count),
+          constants_can m m.globals o.globals has_types.globals has_types.own (omega (arith, few_functions)),
         );
         exports = (let count = exports_count in omega (arith, count), exports_can);
         none_kept = no_exports;
         segments = let count = small.elements in omega (arith, count);
         undeclared = (
-            let count = undeclared_few in omega (arith, count),
-            all-from-has CanBeIndex o.undeclared (λ f h. let there = undeclared_there m (recorded state) k valid f h in omega (arith, there, few_functions)),
+          let count = undeclared_few in omega (arith, count),
+          all-from-has CanBeIndex o.undeclared (λ f h. let there = undeclared_there m (recorded state) k valid f h in omega (arith, there, few_functions)),
         );
         slots = let count = slots_few in omega (arith, count);
         ranges = ranges;

@@ -101,7 +101,7 @@ one_given r (e ∷ exports) differ =
       by : (b : Bool) → bytes_eq e.name r.src ≡ b → sum_by (given_size r) exports ≤ length r.dst → sum_by (given_size r) (e ∷ exports) ≤ length r.dst
       by true p more =
           let others = subst (λ (name : List ℕ). All (λ (y : Export). name ≢ y.name) exports) ((bytes_eq-Decides e.name r.src).0 p)
-              (pairs-head (λ (x y : Export). x.name ≢ y.name) e exports differ) in
+          (pairs-head (λ (x y : Export). x.name ≢ y.name) e exports differ) in
           let none = none_given r exports others in
           let here = at_most (bytes_eq e.name r.src) (length r.dst) in
           let step = sum_by-cons (given_size r) e exports in
@@ -132,7 +132,7 @@ renamed_sum : (renames : List Rename) (exports : List Export) → NamesDiffer ex
 renamed_sum [] exports differ = no_renames exports
 renamed_sum (r ∷ renames) exports differ =
     let each = sum_by-le-sum_by (renamed_size (r ∷ renames)) (λ e. given_size r e + renamed_size renames e) exports
-        (λ e. first_or (bytes_eq e.name r.src) r.dst (renamed_to e.name renames)) in
+    (λ e. first_or (bytes_eq e.name r.src) r.dst (renamed_to e.name renames)) in
     let split = two_sums (given_size r) (renamed_size renames) exports in
     let one = one_given r exports differ in
     let more = renamed_sum renames exports differ in

@@ -1,13 +1,12 @@
 -- The output of a state that a run reached can be written: its numbers have their widths, and each of its sections is short.
-use Rattle.std.proofs.Common.{◌≡◌, ◌≢◌, ℕ, ◌+◌, ◌-◌, ◌^◌, ◌<◌, ◌≤◌, List, [], ◌∷◌, ◌++◌, length, map, Bool, true, false, Option, Some, None, Ok, refl, sym, ap, subst, ◌∙◌, inl, inr, arith, get_or}
-use Rattle.std.specs.Prelude.{IfSome, IsSomeAnd, IsTrue, slice_get, nat_lt, filter}
+use Rattle.std.proofs.Common.{◌≡◌, ℕ, ◌+◌, ◌-◌, ◌^◌, ◌<◌, ◌≤◌, List, [], ◌∷◌, length, Bool, Option, Some, None, refl, sym, ap, subst, ◌∙◌, inl, inr, arith}
+use Rattle.std.specs.Prelude.{IfSome, IsTrue, slice_get, nat_lt, filter}
 use Rattle.std.specs.List.{All, AllZip, concat, flat_map, sum_by, zip}
 use Rattle.std.proofs.lemmas.Bool.{cases_Bool, ltb-true}
 use Rattle.std.proofs.lemmas.List.{length-append, length-map}
 use Rattle.std.proofs.lemmas.List.Elements.{All-nil, All-cons, All-head, All-tail, All-append}
 use Rattle.std.proofs.lemmas.List.Sums.{length-filter, count_by-le-length}
 use Rattle.std.proofs.lemmas.Option.{get_or_from_slice_get}
-use Rattle.std.proofs.lemmas.Slice.Zip.{length-zip}
 use Rattle.wz_io.specs.Reading.{input_limit}
 use Rattle.wz_types.specs.declared.types.ValType.{ValType}
 use Rattle.wz_types.specs.declared.types.MemType.{MemType}
@@ -18,37 +17,31 @@ use Rattle.wz_types.specs.declared.value.Value.TheVariants.{I32, I64, F32, F64, 
 use Rattle.wz_types.specs.FunctionType.{FunctionType}
 use Rattle.wz_types.specs.SameType.{same_type}
 use Rattle.wz_types.specs.Fits.{Fits}
-use Rattle.wz_module.specs.declared.items.ExportTarget.{ExportTarget}
 use Rattle.wz_module.specs.declared.items.ImportKind.{ImportKind}
 use Rattle.wz_module.specs.declared.items.ImportKind.TheVariants as kind
 use Rattle.wz_module.specs.Imports.{Import}
-use Rattle.wz_module.specs.Exports.{Export}
 use Rattle.wz_module.specs.Globals.{GlobalDef}
-use Rattle.wz_module.specs.Sections.{Section, payload_of}
+use Rattle.wz_module.specs.Sections.{Section}
 use Rattle.wz_module.specs.Module.{Module}
 use Rattle.wz_decode_sections.specs.ElementSection.{IsElementSection}
-use Rattle.wz_decode_sections.specs.ExportSection.{IsExport}
-use Rattle.wz_decode.specs.Parts.{HoldsList}
 use Rattle.wz_encode.specs.Limits.{memories_text}
 use Rattle.wz_encode.specs.Globals.{globals_text}
 use Rattle.wz_encode.specs.Exports.{exports_text}
 use Rattle.wz_encode.specs.Elements.{elements_text}
-use Rattle.wz_encode.specs.Laws.{CanBeIndex, CanBeMemory, CanBeConstant, CanBeExport, target_index}
+use Rattle.wz_encode.specs.Laws.{CanBeMemory, CanBeConstant}
 use Rattle.wz_valid.specs.declared.faults.Part.TheVariants as part
 use Rattle.wz_valid.specs.Indices.{function_import, imported_functions, all_functions}
 use Rattle.wz_valid.specs.Limits.{IsMaximumOk, IsMemoryOk}
 use Rattle.wz_valid.specs.Items.{IsOnlyMemory}
 use Rattle.wz_valid.specs.Validity.{IsValid}
-use Rattle.wz_store.specs.State.{Global, Memory}
 use Rattle.wz_machine.specs.State.{State, FunctionInstance, LastingParts}
 use Rattle.wz_snapshot.specs.Recorded.{recorded}
-use Rattle.wz_exports.specs.Kept.{KeptExports, kept_exports}
-use Rattle.wz_exports.specs.Undeclared.{body_refs, refs_elsewhere, is_among, rising, undeclared_functions}
+use Rattle.wz_exports.specs.Kept.{KeptExports}
+use Rattle.wz_exports.specs.Undeclared.{body_refs, rising, undeclared_functions}
 use Rattle.wz_exports.proofs.RisingLemmas.{AtLeast, rises, has-rising}
 use Rattle.wz_init.specs.Functions.{functions_in}
 use Rattle.wz_init.specs.Reached.{IsOwn, IsReachedOf}
 use Rattle.wz_init.proofs.ConstantLemmas.{as_many_functions}
-use Rattle.wz_words.specs.Settings.{Settings}
 use Rattle.wz_rewrite.specs.OutputState.{OutputState}
 use Rattle.wz_rewrite.specs.Dropped.{dropped_elements}
 use Rattle.wz_rewrite.specs.Segments.{segments_of}
@@ -58,7 +51,7 @@ use Rattle.wz_rewrite.specs.Sections.{output_payload, renewed_elements, datas_te
 use Rattle.wz_rewrite.specs.Laws.{SpellsElements}
 use Rattle.wz_rewrite.specs.ValidOutput.{IsNotForeign, FitsGlobal, AreOfTypes}
 use Rattle.wz_rewrite.proofs.IdLemmas.{by_id}
-use Rattle.wz_rewrite.proofs.NumberLemmas.{Has, all-from-has}
+use Rattle.wz_rewrite.proofs.NumberLemmas.{all-from-has}
 use Rattle.wz_rewrite.proofs.BodyLemmas.{named-there}
 use Rattle.wz_rewrite.proofs.SegmentLemmas.{payload_split}
 use Rattle.wz_top.proofs.OutsideLaws.{value_in}

@@ -18,8 +18,7 @@ ghost use Rattle.wz_top.specs.Words.{is_reported, wants_report, is_sample};
 
 use crate::Outcome;
 use crate::fetch::obtain;
-use crate::laws::{bytes_ask_once, none_asks_stuck, output_is_pre_initialised};
-use crate::laws::renames_are_short;
+use crate::laws::{bytes_ask_once, none_asks_stuck, output_is_pre_initialised, renames_are_short};
 use crate::making::make;
 use crate::refusals::usage_outcome;
 use crate::texts::print_outcome;
@@ -122,7 +121,7 @@ fn names_are_texts(renames: &[Rename])
     ensures { All (λ rename. IsUtf8 rename.dst) renames.now }
 {
     for rename in renames {
-        let _bytes = rename.dst.as_str().as_bytes();
+        let _text = rename.dst.as_str();
     }
 }
 
