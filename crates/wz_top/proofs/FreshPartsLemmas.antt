@@ -131,7 +131,7 @@ declared_given m (f ∷ fs) h =
     ap (λ (o : Option (List Reference)). option_and_then (λ y. option_map (λ ys. y ∷ ys) (Some [])) (option_map (λ items. new_element kind.Func items) o))
     (references_given m (f ∷ fs) h)
 
-within_some : {X : Type 0} (xs : List X) (i : ℕ) (o : Option X) → slice_get xs i ≡ o → IsTrue (is_some o) → i < length xs
+pub within_some : {X : Type 0} (xs : List X) (i : ℕ) (o : Option X) → slice_get xs i ≡ o → IsTrue (is_some o) → i < length xs
 within_some xs i None e h = absurd (cc h)
 within_some xs i (Some x) e h = slice_get_within xs i x e
 

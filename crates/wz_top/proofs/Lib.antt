@@ -18,3 +18,11 @@ pub mod FreshMemoryLemmas
 pub mod FreshSlotLemmas
 pub mod FreshKeptLemmas
 pub mod FreshLaws
+pub mod InputSizes
+pub mod RenameSizes
+pub mod KeptSizes
+pub mod TextSizes
+pub mod ChosenSizes
+pub mod WritableLemmas
+pub mod HeadlineLaws
+pub mod StuckLaws

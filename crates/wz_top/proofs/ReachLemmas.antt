@@ -108,7 +108,7 @@ phases_need_own [] first s fuel made ticks some stops e = absurd (omega (arith, 
 phases_need_own (p ∷ ps) first s fuel made ticks some stops e =
     stopped_is_not_reached p.0 (λ new left now. phases_run ps new left now) (run first p.1 fuel made) s ticks (stops p.1) e
 
-has_functions : FreshIsReached → (m : Module) (order : RunOrder) (s : State) (ticks : ℕ) → IsValid m → IsInProfile m → ready m order ≡ Reached s ticks
+pub has_functions : FreshIsReached → (m : Module) (order : RunOrder) (s : State) (ticks : ℕ) → IsValid m → IsInProfile m → ready m order ≡ Reached s ticks
     → 0 < length m.functions
 unfolding ready
 has_functions fresh_is m order s ticks valid inside e = by_fresh (fresh m) refl e where
@@ -131,13 +131,13 @@ has_functions fresh_is m order s ticks valid inside e = by_fresh (fresh m) refl 
   by_fresh (DataUnfit index) is reached = absurd cc
   by_fresh NoInstance is reached = absurd cc
 
-some_payload : (payload : Option (List ℕ)) (bodies : List BodyTree) → HoldsList (λ t x. IsCodeSection t x) payload bodies → 0 < length bodies → IsSome payload
+pub some_payload : (payload : Option (List ℕ)) (bodies : List BodyTree) → HoldsList (λ t x. IsCodeSection t x) payload bodies → 0 < length bodies → IsSome payload
 some_payload (Some payload) bodies holds some = refl
 some_payload None bodies holds some = absurd (let none : length bodies ≡ 0 = ap (λ (bs : List BodyTree). length bs) holds in omega (arith, some, none))
 
 -- ---- memories
 
-one_memory : (m : Module) → IsValid m → length m.memories ≤ 1
+pub one_memory : (m : Module) → IsValid m → length m.memories ≤ 1
 one_memory m valid = by m.memories refl where
   too_many : 1 < length m.memories → ⊥
   too_many many =
@@ -149,7 +149,7 @@ one_memory m valid = by m.memories refl where
   by (one ∷ []) e = subst (λ (ms : List MemType). length ms ≤ 1) (sym e) (omega arith)
   by (one ∷ other ∷ more) e = absurd (too_many (subst (λ (ms : List MemType). 1 < length ms) (sym e) (omega arith)))
 
-ranges_in : (memories : List Memory) (segments : List ChosenSegment) → All (λ segment. IsRangeOf memories segment) segments → HasRanges memories segments
+pub ranges_in : (memories : List Memory) (segments : List ChosenSegment) → All (λ segment. IsRangeOf memories segment) segments → HasRanges memories segments
 ranges_in memories [] all = All-nil _
 ranges_in memories (segment ∷ segments) all =
     All-cons (λ s. HasRange memories s) segment segments (range_in (slice_get memories segment.memory) (All-head (λ s. IsRangeOf memories s) segment segments all))

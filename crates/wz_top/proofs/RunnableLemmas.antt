@@ -1,6 +1,6 @@
 -- The functions that kept exports name for the run take and give nothing.
 use Rattle.std.proofs.Common.{◌≡◌, ℕ, List, [], ◌∷◌, ◌++◌, Bool, true, false, length, slice_get, refl, sym, ap, subst, ◌∙◌, arith}
-use Rattle.std.specs.Prelude.{Option, Some, None, IfSome, Result, Ok, Err, ◌==◌, ◌&&◌, if◌then◌else◌}
+use Rattle.std.specs.Prelude.{Option, Some, None, Result, Ok, Err, ◌==◌, ◌&&◌, if◌then◌else◌}
 use Rattle.std.specs.List.{flat_map}
 use Rattle.std.specs.Option.{option_and_then}
 use Rattle.std.proofs.lemmas.Bool.{eqb-true}
@@ -12,7 +12,7 @@ use Rattle.wz_module.specs.declared.items.ImportKind.{ImportKind}
 use Rattle.wz_module.specs.declared.items.ImportKind.TheVariants as kind
 use Rattle.wz_module.specs.Imports.{Import}
 use Rattle.wz_module.specs.Module.{Module}
-use Rattle.wz_valid_code.specs.Context.{function_type, type_by_number}
+use Rattle.wz_valid_code.specs.Context.{type_by_number}
 use Rattle.wz_valid.specs.Indices.{function_import, imported_functions, all_functions}
 use Rattle.wz_valid.specs.Contexts.{context_of}
 use Rattle.wz_words.specs.Settings.{Settings}
@@ -54,7 +54,7 @@ both_first : (a b : Bool) → (a && b) ≡ true → a ≡ true
 both_first true b e = refl
 both_first false b e = e
 
-both_second : (a b : Bool) → (a && b) ≡ true → b ≡ true
+pub both_second : (a b : Bool) → (a && b) ≡ true → b ≡ true
 both_second true b e = e
 both_second false b e = absurd cc
 

@@ -9,21 +9,21 @@ short_choice : (test : Bool) (n : ℕ) (one other : List ℕ) → length one ≤
 short_choice true n one other a b = a
 short_choice false n one other a b = b
 
-unsigned_short : (more n : ℕ) → length (unsigned_groups more n) ≤ more + 1
+pub unsigned_short : (more n : ℕ) → length (unsigned_groups more n) ≤ more + 1
 unfolding unsigned_groups
 unsigned_short zero n = omega arith
 unsigned_short (suc more) n =
     let rest = unsigned_short more (n / 128) in
     short_choice (nat_lt n 128) (suc more + 1) (n ∷ []) ((n % 128 + 128) ∷ unsigned_groups more (n / 128)) (omega arith) (omega (arith, rest))
 
-signed_short : (more : ℕ) (z : ℤ) → length (signed_groups more z) ≤ more + 1
+pub signed_short : (more : ℕ) (z : ℤ) → length (signed_groups more z) ≤ more + 1
 unfolding signed_groups
 signed_short zero z = omega arith
 signed_short (suc more) z =
     let rest = signed_short more (high_groups z) in
     short_choice (is_one_group z) (suc more + 1) (low_group z ∷ []) ((low_group z + 128) ∷ signed_groups more (high_groups z)) (omega arith) (omega (arith, rest))
 
-number_short : (n : ℕ) → length (shortest_unsigned n) ≤ 10
+pub number_short : (n : ℕ) → length (shortest_unsigned n) ≤ 10
 unfolding shortest_unsigned
 number_short n = unsigned_short 9 n
 

@@ -10,3 +10,4 @@ pub mod Asked
 pub mod Samples
 pub mod Making
 pub mod FreshOutput
+pub mod PreInitialised

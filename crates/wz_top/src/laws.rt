@@ -2,6 +2,8 @@
 
 ghost use Rattle.wz_top.specs.Samples.{SamplesAreShort};
 ghost use Rattle.wz_top.specs.FreshOutput.{OutputStartsAsReached};
+ghost use Rattle.wz_top.specs.PreInitialised.{RenamesAreShort, OutputIsWritten};
+ghost use Rattle.wz_top.specs.PreInitialised.{OutputIsPreInitialised, NoneAsksStuck};
 ghost use Rattle.wz_top.specs.Verdict.{OneVerdict};
 
 use wz_decode::laws as decode_laws;
@@ -31,4 +33,48 @@ pub fn output_starts_as_reached()
     valid_laws::valid_items();
     wz_plan::laws::ranges_of_plan();
     wz_snapshot::laws::chosen_segments();
+}
+
+/// The renames that words ask for have few bytes together.
+pub fn renames_are_short()
+    ensures { RenamesAreShort }
+{}
+
+/// Of a module that bytes spell, which is valid and within the profile, the bytes that are written
+/// for the state that its run reached spell the module that is to be written. It is valid, within
+/// the profile, starts nothing and has the kept exports.
+pub fn output_is_written()
+    ensures { OutputIsWritten }
+{
+    // For the proof: what a run reaches has the module's types, and the chosen ranges are few.
+    wz_init::laws::reached_states();
+    wz_init::laws::states_are_typed();
+    wz_snapshot::laws::chosen_segments();
+    wz_plan::laws::ranges_of_plan();
+    wz_rewrite::laws::input_is_spelled();
+    wz_rewrite::laws::state_has_types();
+    wz_rewrite::laws::output_is_valid();
+    wz_rewrite::laws::output_is_spelled();
+}
+
+/// Bytes that ask for an output ask for themselves, pre-initialised: the output is a valid module
+/// that starts where the run ended, and in no session is there anything else to be seen of it.
+pub fn output_is_pre_initialised()
+    ensures { OutputIsPreInitialised }
+{
+    // For the proof: what is written is valid, and its further segments aren't seen.
+    wz_init::laws::states_are_typed();
+    output_is_written();
+    output_starts_as_reached();
+    wz_machine::laws::typed_states();
+    wz_machine::laws::more_segments_are_not_seen();
+    wz_machine::laws::never_stuck();
+}
+
+/// No bytes ask for the answer that a run was stuck.
+pub fn none_asks_stuck()
+    ensures { NoneAsksStuck }
+{
+    // For the proof: a step of a valid module has a rule.
+    wz_init::laws::states_are_typed();
 }

@@ -1,6 +1,6 @@
 //! The top call.
 
-ghost use Rattle.std.specs.Prelude.{◌≡◌, ◌≢◌, ◌+◌, ◌≤◌, ◌⊎◌, Ok, AllPairs};
+ghost use Rattle.std.specs.Prelude.{◌≡◌, ◌≢◌, ◌+◌, ◌≤◌, ◌⊎◌, Ok, All, AllPairs, IsUtf8};
 ghost use Rattle.wz_io.specs.World.{World, Said};
 ghost use Rattle.wz_io.specs.Reading.{input_limit};
 ghost use Rattle.wz_words.specs.Settings.{settings_of};
@@ -9,13 +9,16 @@ ghost use Rattle.wz_top.specs.Asked.{Asks, Asked, Ran, OnDone, OnRefusal, OnInpu
 ghost use Rattle.wz_top.specs.Asked.{OnOutputFault, OnUnfinished, Stays, IsTold, IsAnswer};
 ghost use Rattle.wz_top.specs.Asked.{IsComplete};
 ghost use Rattle.wz_top.specs.Devices.{IsSmallSample};
+ghost use Rattle.wz_top.specs.PreInitialised.{OnPreInitialised};
 ghost use Rattle.wz_top.specs.Saying.{SaysAll, SaysFirst};
 ghost use Rattle.wz_top.specs.Texts.{text};
+ghost use Rattle.wz_init.specs.declared.faults.InitFault.TheVariants.{Stuck};
+ghost use Rattle.wz_top.specs.declared.outcome.Outcome.TheVariants.{Init};
 ghost use Rattle.wz_top.specs.Words.{is_reported, wants_report, is_sample};
 
 use crate::Outcome;
 use crate::fetch::obtain;
-use crate::laws::bytes_ask_once;
+use crate::laws::{bytes_ask_once, none_asks_stuck, output_is_pre_initialised, renames_are_short};
 use crate::making::make;
 use crate::refusals::usage_outcome;
 use crate::texts::print_outcome;
@@ -24,7 +27,7 @@ use std::alloc::Global;
 use wz_exports::laws::renames_differ;
 use wz_io::{Files, ReadAll, Sink};
 use wz_types::Text;
-use wz_words::{InputFrom, Settings, read_words};
+use wz_words::{InputFrom, Rename, Settings, read_words};
 
 /// Pre-initialises the module that the words name, writes the module that starts in the state
 /// that was reached, and puts the line that tells how the run ended.
@@ -40,10 +43,19 @@ pub fn wizer<F: Files, E: Sink>(
     ensures done { OnDone result (Asks words.now (F.world files.old).told)
         (F.world files.old) (F.world files.new) }
 
+    // What was written is the input, pre-initialised: a valid module that starts nothing and has
+    // the kept exports, whose fresh instance is the state that the run reached, and of which in
+    // every session the same is seen as of that state.
+    ensures headline { OnPreInitialised result (settings words.now)
+        (F.world files.old) (F.world files.new) }
+
     // A refusal comes only where it is asked for, and what is asked for is answered.
     ensures refusal { OnRefusal result (Asks words.now (F.world files.old).told) }
     ensures answer { IsTold (settings words.now) (F.world files.old).told →
         (asked : Asked) → Asks words.now (F.world files.old).told asked → IsAnswer asked result }
+
+    // No run is stuck.
+    ensures never_stuck { result ≢ Init Stuck }
 
     // A fault comes only where that device failed, and for the output only where one is asked for.
     ensures input_fault { OnInputFault result (settings words.now)
@@ -67,6 +79,8 @@ pub fn wizer<F: Files, E: Sink>(
         SaysAll line (E.said messages.old) (E.said messages.new)
         ⊎ SaysFirst line (E.said messages.old) (E.said messages.new) }
 {
+    // For the proof: nothing asks for a run that is stuck.
+    none_asks_stuck();
     let (outcome, report) = run(alloc, words, files);
     say(&outcome, report, messages);
     outcome
@@ -83,17 +97,32 @@ fn say<E: Sink>(outcome: &Outcome, report: bool, messages: &mut E)
 /// The outcome, and whether its report is to be printed.
 fn run<F: Files>(alloc: Global, words: &[Text], files: &mut F) -> (Outcome, bool)
     ensures ran { Ran result.0 (settings words.now) (F.world files.old) (F.world files.new) }
+    ensures headline { OnPreInitialised result.0 (settings words.now)
+        (F.world files.old) (F.world files.new) }
     ensures report { text result.0 result.1 ≡ text result.0 (is_reported (settings words.now)) }
     ensures reads { (F.world files.new).reads ≤ (F.world files.old).reads + input_limit + 2 }
 {
-    // For the proof: no two renames are to one name.
+    // For the proof: no two renames are to one name, all are short, and what is asked for is
+    // the input, pre-initialised.
     renames_differ();
+    renames_are_short();
+    output_is_pre_initialised();
     let settings = match read_words(alloc, words) {
         Ok(settings) => settings,
         Err(fault) => return (usage_outcome(fault), false),
     };
+    names_are_texts(&settings.renames);
     let report = wants_report(&settings);
     (carry_out(alloc, &settings, files), report)
+}
+
+/// The names that renames give are UTF-8. It does nothing: each is a text by its type.
+fn names_are_texts(renames: &[Rename])
+    ensures { All (λ rename. IsUtf8 rename.dst) renames.now }
+{
+    for rename in renames {
+        let _text = rename.dst.as_str();
+    }
 }
 
 /// Whether the report is printed: where it is asked for, and always for a sample.
