@@ -46,6 +46,7 @@ pub mod Refusals
 pub mod Standings
 pub mod Keeping
 pub mod Machines
+pub mod Lending
 pub mod Waiting
 pub mod PlainSteps
 pub mod Operands

@@ -8,11 +8,14 @@ use Rattle.wz_machine.specs.Terms.{Standing}
 use Rattle.wz_machine.specs.Replies.{Reply}
 use Rattle.wz_machine.specs.Standings.{StandingParts, standing_of}
 
--- the bodies of the functions, the store, and the terms, the topmost first
-pub record MachineParts : Type 0 where
+-- the bodies of the functions, the store, in whatever form, and the terms, the topmost first
+pub record MachinePartsOver (S : Type 0) : Type 0 where
   pub bodies : List BodyParts
-  pub store : StoreState
+  pub store : S
   pub standings : List StandingParts
+
+abbrev pub MachineParts : Type 0
+MachineParts = MachinePartsOver StoreState
 
 abbrev pub machine_state : MachineParts → State
 machine_state machine = state_of machine.bodies machine.store

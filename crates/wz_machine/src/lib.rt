@@ -43,6 +43,6 @@ mod waiting;
 
 pub use advance::Advance;
 pub use answers::{EnterFault, GrowFault, HostFault, NotNow, Tick};
-pub use machine::Machine;
+pub use machine::{Machine, MachineOver};
 pub use questions::{Ask, FloatReply, Growth, HostTarget};
 pub use straight::is_table_change;

@@ -1,6 +1,8 @@
 //! The machine: a store, and the stack of terms that are computed over it.
 
 ghost use Rattle.std.specs.Prelude.{◌≡◌, ◌≤◌, ◌^◌, ◌↔◌, [], IsTrue, IsErr, OnOk, OnErr};
+ghost use Rattle.std.specs.Borrow.{sem};
+ghost use Rattle.wz_machine.specs.Lending.{LendsStore};
 ghost use Rattle.wz_machine.specs.Frames.{frames_in_all, locals_in_all};
 ghost use Rattle.wz_machine.specs.Replies.{fits_in, all_fit_in, function_reply, float_reply, grow_reply, return_reply, abort_reply};
 ghost use Rattle.wz_machine.specs.Machines.{machine_state, machine_stack, IsReplied};
@@ -23,24 +25,27 @@ use wz_types::{ValType, Value};
 /// More terms than this are refused as if there were no memory for them.
 const MOST_TERMS: usize = 0x8000_0000;
 
-/// A machine over an instance: its store, and a stack of terms, of which a lower one waits for the
-/// host while an upper one runs.
+/// A machine over a store of any form `S`: the store, and a stack of terms, of which a lower one
+/// waits for the host while an upper one runs.
 ///
 /// Contracts see it as the record of the bodies, the store and the terms.
 #[derive(Drop)]
-pub struct Machine<'m, M: Linear> {
+pub struct MachineOver<'m, S> {
     pub(crate) alloc: Global,
     pub(crate) bodies: &'m [Body],
-    pub(crate) store: Store<'m, M>,
+    pub(crate) store: S,
     /// The topmost is the last.
     pub(crate) standings: Vec<Standing<'m>>,
 }
 
-impl<'m, M: Linear> Model for Machine<'m, M> {
-    ghost use Rattle.std.specs.Prelude.{◌^◌, ◌≤◌, length, reverse};
-    ghost use Rattle.wz_machine.specs.Machines.{MachineParts};
+/// A machine over an instance.
+pub type Machine<'m, M> = MachineOver<'m, Store<'m, M>>;
 
-    ghost Value = { MachineParts };
+impl<'m, S> Model for MachineOver<'m, S> {
+    ghost use Rattle.std.specs.Prelude.{◌^◌, ◌≤◌, length, reverse};
+    ghost use Rattle.wz_machine.specs.Machines.{MachinePartsOver};
+
+    ghost Value = { MachinePartsOver S };
 
     ghost view = { λ m. record {
       bodies = m.bodies.now;
@@ -49,6 +54,17 @@ impl<'m, M: Linear> Model for Machine<'m, M> {
     } };
 
     ghost invariant = { λ m. length m.standings.items ≤ 2 ^ 31 };
+}
+
+impl<'m, S> MachineOver<'m, S> {
+    /// The store for writing. Whoever changes it shows anew what held of it.
+    #[inline]
+    pub fn store_mut(&mut self) -> &mut S
+        ensures* lent { sem 𝓛 (LendsStore S.row self.entry result) }
+        ensures value { result.now ≡ self.old.store }
+    {
+        &mut self.store
+    }
 }
 
 impl<'m, M: Linear> Machine<'m, M> {
