@@ -12,7 +12,6 @@ mod outputs;
 mod published;
 mod refusals;
 mod running;
-mod runs;
 mod samples;
 mod sections;
 mod sessions;

@@ -3,7 +3,6 @@
 
 mod control;
 mod memory;
-mod numeric;
 mod traps;
 
 use super::running::{ended, joined, module, texts};
@@ -128,14 +127,6 @@ fn fails(rt: &impl Abort, alloc: Global, case: &Trap, fuel: &str, line: &str) ->
 #[test]
 fn control_instructions(rt: HostRuntime) -> Result<(), Fail> {
     for case in &control::CASES {
-        reaches(&rt, rt.alloc(), case)?;
-    }
-    Ok(())
-}
-
-#[test]
-fn numeric_instructions(rt: HostRuntime) -> Result<(), Fail> {
-    for case in &numeric::CASES {
         reaches(&rt, rt.alloc(), case)?;
     }
     Ok(())

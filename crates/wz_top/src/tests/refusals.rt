@@ -226,45 +226,6 @@ static INPUTS: [Refused; 15] = [
     },
 ];
 
-/// The first and the last length to which a module is cut, and the line.
-static CUTS: [(usize, usize, &str); 11] = [
-    (
-        0,
-        7,
-        "wizer: the input is no WebAssembly module of version 1\n",
-    ),
-    (8, 8, "wizer: there is no export \"wizer.initialize\"\n"),
-    (
-        9,
-        13,
-        "wizer: section 0 is outside this profile's grammar\n",
-    ),
-    (14, 14, "wizer: there is no export \"wizer.initialize\"\n"),
-    (
-        15,
-        17,
-        "wizer: section 1 is outside this profile's grammar\n",
-    ),
-    (18, 18, "wizer: the counts of the sections don't agree\n"),
-    (
-        19,
-        25,
-        "wizer: section 2 is outside this profile's grammar\n",
-    ),
-    (26, 26, "wizer: the counts of the sections don't agree\n"),
-    (
-        27,
-        47,
-        "wizer: section 3 is outside this profile's grammar\n",
-    ),
-    (48, 48, "wizer: the counts of the sections don't agree\n"),
-    (
-        49,
-        57,
-        "wizer: section 4 is outside this profile's grammar\n",
-    ),
-];
-
 #[test]
 fn words_at_fault(rt: HostRuntime) -> Result<(), Fail> {
     let alloc = rt.alloc();
@@ -287,30 +248,6 @@ fn other_inputs(rt: HostRuntime) -> Result<(), Fail> {
 fn other_settings(rt: HostRuntime) -> Result<(), Fail> {
     for case in &SETTINGS {
         is_refused(&rt, rt.alloc(), case)?;
-    }
-    Ok(())
-}
-
-/// Runs the module cut to each of these lengths.
-fn are_refused(
-    rt: &impl Abort,
-    alloc: Global,
-    (first, last, line): (usize, usize, &str),
-) -> Result<(), Fail> {
-    let words = texts(alloc, &["in.wasm", "-o", "out.wasm"], &[])?;
-    let whole = joined(alloc, USUAL)?;
-    for length in first..last + 1 {
-        let mut input = whole.clone()?;
-        input.truncate(length);
-        ended(alloc, &words, input)?.is_refused(rt, 1, line, line);
-    }
-    Ok(())
-}
-
-#[test]
-fn a_module_that_is_cut(rt: HostRuntime) -> Result<(), Fail> {
-    for cut in &CUTS {
-        are_refused(&rt, rt.alloc(), *cut)?;
     }
     Ok(())
 }
