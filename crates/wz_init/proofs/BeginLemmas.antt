@@ -1,5 +1,6 @@
 -- The run of all phases begins with the module's fresh instance.
-use Rattle.std.proofs.Common.{◌≡◌, ℕ, List, [], Option, Some, None, map, refl, sym, ap, ◌∙◌}
+use Rattle.std.proofs.Common.{◌≡◌, ℕ, List, [], ◌∷◌, Option, Some, None, true, IsTrue, map, refl, sym, ap, subst, ◌∙◌}
+use Rattle.wz_types.specs.declared.types.ValType.{ValType}
 use Rattle.wz_types.specs.FunctionType.{FunctionType}
 use Rattle.wz_code.specs.BodyParts.{BodyParts}
 use Rattle.wz_module.specs.Functions.{body_tree_of}
@@ -8,11 +9,13 @@ use Rattle.wz_valid.specs.Validity.{IsValid}
 use Rattle.wz_valid.specs.Profile.{IsInProfile}
 use Rattle.wz_valid.specs.Laws.{StartTakesNothing}
 use Rattle.wz_store.specs.Made.{StoreState}
-use Rattle.wz_machine.specs.State.{State, LastingParts, FunctionInstance, state_of}
+use Rattle.wz_machine.specs.State.{State, LastingParts, Callable, callable_at, state_of}
 use Rattle.wz_machine.specs.Terms.{Standing}
+use Rattle.wz_machine.specs.Replies.{all_fit_in, takes_values}
+use Rattle.wz_machine.specs.TypedState.{state_context}
+use Rattle.wz_machine.specs.TypedTerms.{IsStackTyped}
 use Rattle.wz_machine.specs.Machines.{MachineParts, machine_state}
 use Rattle.wz_init.specs.declared.order.RunOrder.{RunOrder}
-use Rattle.wz_init.specs.Functions.{functions_in}
 use Rattle.wz_init.specs.States.{state_in}
 use Rattle.wz_init.specs.Instances.{Fresh, Instance}
 use Rattle.wz_init.specs.Instantiation.{fresh}
@@ -21,7 +24,10 @@ use Rattle.wz_init.specs.Reached.{IsSound, IsReachedOf}
 use Rattle.wz_init.specs.Laws.{FreshIsReached, StateByBodies}
 use Rattle.wz_init.specs.Orders.{IsPlainFunction, IsPlainWhereGiven, IsRunnable}
 use Rattle.wz_init.specs.Turns.{HasEnded, FunctionsAreSmall, TakesNothing, PhaseTakesNothing, PhasesTakeNothing}
-use Rattle.wz_init.proofs.SmallLemmas.{functions_small, takes_nothing}
+use Rattle.wz_init.specs.Typed.{DatasHoldBytes, FreshIsTyped}
+use Rattle.wz_init.proofs.SmallLemmas.{functions_small}
+use Rattle.wz_init.proofs.TypedFresh.{IsSelfTyped}
+use Rattle.wz_init.proofs.TypedRuns.{plain_takes}
 
 -- the state of a machine that has the module's bodies
 pub machine_is : StateByBodies → (m : Module) (machine : MachineParts) (bodies : List BodyParts) (store : StoreState) → machine.bodies ≡ bodies
@@ -43,35 +49,49 @@ begun law made m machine bodies store valid profile same trees kept is =
 pub begun_sound : (m : Module) (s : State) → IsBegun m s → IsSound s
 begun_sound m s b = record { pages = b.reached.left.pages; sizes = b.reached.left.sizes; fitting = b.reached.left.fitting; own = b.reached.left.own }
 
-pub begun_ended : (m : Module) (s : State) (stack : List Standing) → IsBegun m s → stack ≡ [] → HasEnded s stack
-begun_ended m s stack b empty = record { own = b.reached.left.own; empty = empty }
+pub begun_typed : FreshIsTyped → (m : Module) (s : State) → IsValid m → IsInProfile m → DatasHoldBytes m → IsBegun m s → IsSelfTyped s
+begun_typed law m s valid profile datas b = law m s valid profile datas b.first
 
-functions_of : (m : Module) (s : State) → IsBegun m s → s.functions ≡ functions_in m
-functions_of m s b = ap (λ (p : LastingParts). p.functions) b.reached.module_parts
-
-types_of : (m : Module) (s : State) → IsBegun m s → s.types ≡ m.types
-types_of m s b = ap (λ (p : LastingParts). p.types) b.reached.module_parts
+pub begun_ended : (m : Module) (s : State) (stack : List Standing) → IsSelfTyped s → IsBegun m s → stack ≡ [] → HasEnded s stack
+begun_ended m s stack typed b empty = record {
+  typed = record { state = typed; terms = subst (λ (x : List Standing). IsStackTyped (state_context s) x) (sym empty) tt };
+  own = b.reached.left.own;
+  empty = empty;
+}
 
 pub begun_small : (m : Module) (s : State) → IsInProfile m → IsBegun m s → FunctionsAreSmall s
-begun_small m s profile b = functions_small m s profile (functions_of m s b)
+begun_small m s profile b = functions_small m s profile (ap (λ (p : LastingParts). p.functions) b.reached.module_parts)
 
-takes_there : (m : Module) (s : State) (function : ℕ) → IsBegun m s → IsPlainFunction m function → TakesNothing s function
-takes_there m s function b plain = takes_nothing m s function (types_of m s b) (functions_of m s b) plain
+no_parameters : (s : State) (type : FunctionType) → all_fit_in s [] type.params ≡ true → type.params ≡ []
+no_parameters s type fit = by type.params fit
+  where
+    by : (params : List ValType) → all_fit_in s [] params ≡ true → params ≡ []
+    by [] e = refl
+    by (param ∷ params) e = absurd (cc e)
 
-reactor_takes : (m : Module) (s : State) (function : Option ℕ) → IsBegun m s → IsPlainWhereGiven m function → PhaseTakesNothing s function
-reactor_takes m s None b plain = tt
-reactor_takes m s (Some function) b plain = takes_there m s function b plain
+taken : (s : State) (function : ℕ) (o : Option Callable) → callable_at s.types s.functions function ≡ o → IsTrue (takes_values s o []) → TakesNothing s function
+taken s function None here h = absurd (cc h)
+taken s function (Some callable) here h = record { callable = callable; there = here; takes = no_parameters s callable.type h }
 
-start_takes : StartTakesNothing → (m : Module) (s : State) (start : Option ℕ) → IsValid m → IsBegun m s → m.start ≡ start → PhaseTakesNothing s start
-start_takes law m s None valid b is = tt
-start_takes law m s (Some function) valid b is = takes_there m s function b (law m function valid is)
+takes_there : (m : Module) (s : State) (function : ℕ) → IsSelfTyped s → IsBegun m s → IsPlainFunction m function → TakesNothing s function
+takes_there m s function typed b plain =
+    taken s function (callable_at s.types s.functions function) refl (plain_takes m s function typed b.reached.module_parts plain)
 
-pub begun_takes : StartTakesNothing → (m : Module) (s : State) (start : Option ℕ) (order : RunOrder) → IsValid m → IsRunnable m order → IsBegun m s
-    → start ≡ m.start → PhasesTakeNothing s start order
-begun_takes law m s start order valid runnable b is = record {
-  start_phase = start_takes law m s start valid b (sym is);
-  reactor_phase = reactor_takes m s order.reactor b runnable.reactor_function;
-  init_phase = takes_there m s order.function b runnable.init_function;
+reactor_takes : (m : Module) (s : State) (function : Option ℕ) → IsSelfTyped s → IsBegun m s → IsPlainWhereGiven m function → PhaseTakesNothing s function
+reactor_takes m s None typed b plain = tt
+reactor_takes m s (Some function) typed b plain = takes_there m s function typed b plain
+
+start_takes : StartTakesNothing → (m : Module) (s : State) (start : Option ℕ) → IsValid m → IsSelfTyped s → IsBegun m s → m.start ≡ start
+    → PhaseTakesNothing s start
+start_takes law m s None valid typed b is = tt
+start_takes law m s (Some function) valid typed b is = takes_there m s function typed b (law m function valid is)
+
+pub begun_takes : StartTakesNothing → (m : Module) (s : State) (start : Option ℕ) (order : RunOrder) → IsValid m → IsRunnable m order → IsSelfTyped s
+    → IsBegun m s → start ≡ m.start → PhasesTakeNothing s start order
+begun_takes law m s start order valid runnable typed b is = record {
+  start_phase = start_takes law m s start valid typed b (sym is);
+  reactor_phase = reactor_takes m s order.reactor typed b runnable.reactor_function;
+  init_phase = takes_there m s order.function typed b runnable.init_function;
 }
 
 pub begun_ready : (m : Module) (s : State) (start : Option ℕ) (order : RunOrder) → IsBegun m s → start ≡ m.start

@@ -9,8 +9,6 @@ use Rattle.wz_types.specs.declared.trap.TrapKind.{TrapKind}
 use Rattle.wz_types.specs.declared.trap.TrapKind.TheVariants.{MemoryBounds}
 use Rattle.wz_types.specs.declared.value.Reference.{Reference}
 use Rattle.wz_types.specs.declared.value.Reference.TheVariants.{Null, Fn, Foreign}
-use Rattle.wz_types.specs.declared.value.Sort.{Sort}
-use Rattle.wz_types.specs.declared.value.Sort.TheVariants as sort
 use Rattle.wz_types.specs.declared.value.Value.{Value}
 use Rattle.wz_types.specs.declared.value.Value.TheVariants.{I32, I64, F32, F64, Ref}
 use Rattle.wz_types.specs.FunctionType.{FunctionType}
@@ -48,7 +46,7 @@ use Rattle.wz_machine.specs.TableSteps.{entry_effect, table_get_step, table_size
 use Rattle.wz_machine.specs.BulkSteps.{bulk_step, minus_one}
 use Rattle.wz_machine.specs.MemorySteps.{value_of_bits, bits_of_value, value_effect, read_value, load_step, write_effect, store_step, access_step, memory_size_step, memory_grow_step, memory_fill_step, memory_copy_step, memory_init_step, data_drop_step}
 use Rattle.wz_machine.specs.ControlSteps.{br_if_step, listed_jump, br_table_step}
-use Rattle.wz_machine.specs.CallSteps.{invocation, with_arguments, call_step, expected_call, host_call, foreign_call, sort_call, entry_call, call_indirect_step}
+use Rattle.wz_machine.specs.CallSteps.{invocation, with_arguments, call_step, expected_call, entry_call, call_indirect_step}
 use Rattle.wz_machine.specs.InstrSteps.{instr_step, leaf_step}
 use Rattle.wz_machine.specs.BlockSteps.{block_type, label_types, block_entry, if_entry, arrival, label_reduct, frame_left, frame_reduct}
 use Rattle.wz_machine.specs.Step.{outcome_reduct, code_reduct, inside_reduct, results_answer, frame_answer, step}
@@ -71,12 +69,13 @@ IsFine s (GrowMemory index by) = ⊥
 IsFine s (EmptyElement index) = Unit {0}
 IsFine s (EmptyData index) = Unit {0}
 
--- growth is asked of a memory that is there, within its limits
+-- growth is asked of a memory that is there, within its limits; and nothing of a function of the host that only a reference leads to
 abbrev pub IsAsked : State → Question → Type 0
 IsAsked s (AskFloat o operands) = Unit {0}
 IsAsked s (AskMemory index by) = (memory : Memory) × (slice_get s.memories index ≡ Some memory) × (may_grow (pages_of memory) memory.maximum by ≡ true)
 IsAsked s (AskTable index by reference) = Unit {0}
-IsAsked s (AskHost target arguments type) = Unit {0}
+IsAsked s (AskHost (target.Import number) arguments type) = Unit {0}
+IsAsked s (AskHost (target.Foreign id) arguments type) = ⊥
 
 abbrev pub EffectFine : State → Effect → Type 0
 EffectFine s (Yields change values) = IsFine s change × AreOwn values
@@ -455,30 +454,18 @@ expected_fine s type (Some function) values h =
     if-both (λ (o : Outcome). OutcomeFine s o) (same_function_type function.type type) (call_step (Some function) values) (Does (Fails _)) (call_fine s (Some function) values h)
     tt
 
-host_fine : (s : State) (type : FunctionType) (id : ℕ) (values : List Value) → AreOwn values → OutcomeFine s (host_call type id values)
-host_fine s type id values h = with_arguments_fine s type (λ arguments below. Does (Poses (AskHost (target.Foreign id) arguments type) below)) (λ arguments below a b. (tt, b)) values h
+entry_call_fine : (s : State) (type : FunctionType) (entries : List Reference) (at : ℕ) (o : Option Reference) → slice_get entries at ≡ o → AreOwnReferences entries
+    → (values : List Value) → AreOwn values → OutcomeFine s (entry_call s.types s.functions type o values)
+entry_call_fine s type entries at None e own values h = tt
+entry_call_fine s type entries at (Some (Null kind)) e own values h = tt
+entry_call_fine s type entries at (Some (Fn index)) e own values h = expected_fine s type (callable_at s.types s.functions index) values h
+entry_call_fine s type entries at (Some (Foreign id sort)) e own values h = absurd (own_reference_at entries at (Foreign id sort) e own)
 
-foreign_fine : (s : State) (type : FunctionType) (id : ℕ) (o : Option FunctionType) (values : List Value) → AreOwn values → OutcomeFine s (foreign_call type id o values)
-foreign_fine s type id None values h = tt
-foreign_fine s type id (Some actual) values h =
-    if-both (λ (o : Outcome). OutcomeFine s o) (same_function_type actual type) (host_call type id values) (Does (Fails _)) (host_fine s type id values h) tt
-
-sort_fine : (s : State) (types : List FunctionType) (type : FunctionType) (id : ℕ) (k : Sort) (values : List Value) → AreOwn values → OutcomeFine s (sort_call types type id k values)
-sort_fine s types type id sort.Extern values h = tt
-sort_fine s types type id (sort.Func number) values h = foreign_fine s type id (slice_get types number) values h
-sort_fine s types type id sort.OtherFunc values h = tt
-
-entry_call_fine : (s : State) (type : FunctionType) (o : Option Reference) (values : List Value) → AreOwn values
-    → OutcomeFine s (entry_call s.types s.functions type o values)
-entry_call_fine s type None values h = tt
-entry_call_fine s type (Some (Null kind)) values h = tt
-entry_call_fine s type (Some (Fn index)) values h = expected_fine s type (callable_at s.types s.functions index) values h
-entry_call_fine s type (Some (Foreign id sort)) values h = sort_fine s s.types type id sort values h
-
-call_indirect_fine : (s : State) (type : Option FunctionType) (table : Option Table) (values : List Value) → AreOwn values
-    → OutcomeFine s (call_indirect_step s.types s.functions type table values)
-call_indirect_fine s (Some type) (Some table) (I32 at ∷ values) h = entry_call_fine s type (slice_get table.entries at) values h.1
-call_indirect_fine s type table values h = tt
+call_indirect_fine : (s : State) (type : Option FunctionType) (index : ℕ) (o : Option Table) → slice_get s.tables index ≡ o → HoldsOwn s → (values : List Value)
+    → AreOwn values → OutcomeFine s (call_indirect_step s.types s.functions type o values)
+call_indirect_fine s (Some type) index (Some table) e own (I32 at ∷ values) h =
+    entry_call_fine s type table.entries at (slice_get table.entries at) refl (own.tables index table e) values h.1
+call_indirect_fine s type index o e own values h = tt
 
 -- ---- all instructions
 
@@ -514,7 +501,7 @@ instr_fine s locals (BrIf label) values e h l k = br_if_fine s label values k
 instr_fine s locals Return values e h l k = k
 instr_fine s locals (Call function) values e h l k = call_fine s (callable_at s.types s.functions function) values k
 instr_fine s locals (CallIndirect signature table) values e h l k =
-    call_indirect_fine s (slice_get s.types signature) (slice_get s.tables table) values k
+    call_indirect_fine s (slice_get s.types signature) table (slice_get s.tables table) refl h values k
 instr_fine s locals (I32Const bits) values e h l k = (tt, (tt, k))
 instr_fine s locals (I64Const bits) values e h l k = (tt, (tt, k))
 instr_fine s locals (F32Const bits) values e h l k = (tt, (tt, k))

@@ -13,8 +13,9 @@ pub mod TurnLemmas
 pub mod PhaseLemmas
 pub mod TickingLemmas
 pub mod SmallLemmas
-pub mod BeginLemmas
 pub mod MaximaLemmas
 pub mod TypedModules
 pub mod TypedFresh
 pub mod TypedRuns
+pub mod BeginLemmas
+pub mod TypingLemmas

@@ -1,7 +1,7 @@
 -- The run of one phase is the head of the run of all.
 use Rattle.std.proofs.Common.{◌≡◌, ℕ, List, [], ◌∷◌, Result, Ok, Err, IfOk, IfErr, inl, refl, sym, ap, ◌∙◌}
 use Rattle.wz_types.specs.FunctionType.{FunctionType}
-use Rattle.wz_machine.specs.State.{State, LastingParts, FunctionInstance, Callable, callable_at}
+use Rattle.wz_machine.specs.State.{State, LastingParts, FunctionInstance, callable_at}
 use Rattle.wz_machine.specs.Entered.{entered, entered_callable}
 use Rattle.wz_init.specs.declared.order.Phase.{Phase}
 use Rattle.wz_init.specs.declared.faults.InitFault.{InitFault}
@@ -49,11 +49,11 @@ pub taken_on : (s : State) (function fuel ticks : ℕ) (last : State) (left made
     → KeepsTakingNothing s last
 taken_on s function fuel ticks last left made h e =
     let kept = run_left s s s function fuel ticks last left made (itself s h) e in
-    λ f takes callable is.
+    λ f takes.
     let same : callable_at last.types last.functions f ≡ callable_at s.types s.functions f =
     ap (λ (fs : List FunctionInstance). callable_at last.types fs f) (ap (λ (p : LastingParts). p.functions) kept.lasting)
     ∙ ap (λ (ts : List FunctionType). callable_at ts s.functions f) (ap (λ (p : LastingParts). p.types) kept.lasting) in
-    takes callable (sym same ∙ is)
+    record { callable = takes.callable; there = same ∙ takes.there; takes = takes.takes }
 
 pub phase_returns : (phase : Phase) (function : ℕ) (later : List (Phase × ℕ)) (s : State) (fuel ticks : ℕ) (last : State) (left made : ℕ)
     → run s function fuel ticks ≡ Returned last left made → phases_run ((phase, function) ∷ later) s fuel ticks ≡ phases_run later last left made
@@ -73,7 +73,6 @@ phase_stops phase function later s fuel ticks (fault.FloatUsed op) h = (phase, a
 phase_stops phase function later s fuel ticks fault.TableChanged h = (phase, ap (λ (x : RunEnd). phase_end phase (λ new left made. phases_run later new left made) x) h)
 phase_stops phase function later s fuel ticks fault.TooManyFrames h = (phase, ap (λ (x : RunEnd). phase_end phase (λ new left made. phases_run later new left made) x) h)
 phase_stops phase function later s fuel ticks fault.TooManyFrameLocals h = (phase, ap (λ (x : RunEnd). phase_end phase (λ new left made. phases_run later new left made) x) h)
-phase_stops phase function later s fuel ticks fault.Stuck h = (phase, ap (λ (x : RunEnd). phase_end phase (λ new left made. phases_run later new left made) x) h)
 phase_stops phase function later s fuel ticks fault.NoMemory h = tt
 
 pub no_phase : (s : State) (fuel ticks : ℕ) → phases_run [] s fuel ticks ≡ Reached s ticks

@@ -11,7 +11,7 @@ use Rattle.wz_machine.specs.Next.{next}
 use Rattle.wz_machine.specs.Frames.{frame_count, local_count}
 use Rattle.wz_machine.specs.Advance.{head_changes_table, StepsOn, Reaches, ReachesEntry}
 use Rattle.wz_machine.specs.Entered.{entered}
-use Rattle.wz_init.specs.Run.{Stop, FuelIsSpent, TableWouldChange, FramesAreTooMany, LocalsAreTooMany, NoRuleFits, ImportIsCalled, Stopped, frames_limit, all_locals_limit, too_much, within_limits, run_on, run_from, run_standing, run}
+use Rattle.wz_init.specs.Run.{Stop, FuelIsSpent, TableWouldChange, FramesAreTooMany, LocalsAreTooMany, ImportIsCalled, Stopped, frames_limit, all_locals_limit, too_much, within_limits, run_on, run_from, run_standing, run}
 use Rattle.wz_init.specs.Reached.{HoldsOwn, TermOwn}
 use Rattle.wz_init.specs.Turns.{IsWithinLimits}
 use Rattle.wz_init.proofs.FineLemmas.{AnswerFine, step_fine}
@@ -125,7 +125,3 @@ pub run_import : (s : State) (function fuel ticks number : ℕ) (type : Function
     → entered s function [] ≡ Some (Waits (AskHost (target.Import number) [] type) rest) → run s function fuel ticks ≡ Stopped (ImportIsCalled number)
 unfolding run
 run_import s function fuel ticks number type rest e = ap (λ (o : Option Standing). run_standing fuel ticks s o) e
-
-pub run_missing : (s : State) (function fuel ticks : ℕ) → entered s function [] ≡ None → run s function fuel ticks ≡ Stopped NoRuleFits
-unfolding run
-run_missing s function fuel ticks e = ap (λ (o : Option Standing). run_standing fuel ticks s o) e

@@ -1,10 +1,10 @@
 -- The functions of a module in the profile begin within the limits on frames and locals; and one whose type is [] to [] takes nothing.
-use Rattle.std.proofs.Common.{◌≡◌, ◌≤◌, ◌<◌, ◌+◌, ℕ, zero, suc, List, [], ◌∷◌, ◌++◌, Option, Some, None, map, length, replicate, slice_get, option_map, refl, sym, ap, subst, ◌∙◌, arith, append_assoc, length-append}
+use Rattle.std.proofs.Common.{◌≡◌, ◌≤◌, ◌<◌, ◌+◌, ℕ, zero, suc, List, [], ◌∷◌, ◌++◌, Option, Some, None, map, length, replicate, slice_get, refl, sym, ap, subst, ◌∙◌, arith, append_assoc, length-append}
 use Rattle.std.specs.List.{All}
 use Rattle.std.proofs.lemmas.List.{length-replicate}
 use Rattle.std.proofs.lemmas.List.Elements.{All-nil, All-cons, All-head, All-tail, All-append, All-map, All-get_or}
 use Rattle.std.proofs.lemmas.List.Sums.{sum_by-cons}
-use Rattle.std.proofs.lemmas.Option.{slice_get-map, slice_get_within, get_or_from_slice_get, none-some}
+use Rattle.std.proofs.lemmas.Option.{slice_get_within, get_or_from_slice_get}
 use Rattle.wz_types.specs.declared.types.ValType.{ValType}
 use Rattle.wz_types.specs.FunctionType.{FunctionType}
 use Rattle.wz_types.specs.Zeros.{zeros_of}
@@ -20,11 +20,11 @@ use Rattle.wz_valid.specs.Contexts.{context_of}
 use Rattle.wz_valid.specs.Profile.{IsInProfile, locals_limit, runs_length, own_locals, own_counts, local_counts, params_of}
 use Rattle.wz_store.specs.declared.function.Function.{Function}
 use Rattle.wz_store.specs.declared.function.Function.TheVariants as stored
-use Rattle.wz_machine.specs.State.{State, FunctionBody, OwnBody, ImportedBody, NoBody, FunctionInstance, Callable, callable_of, callable_from, callable_at}
+use Rattle.wz_machine.specs.State.{State, FunctionBody, OwnBody, ImportedBody, NoBody, FunctionInstance, callable_of, callable_from}
 use Rattle.wz_machine.specs.Terms.{Standing, Runs, Waits}
 use Rattle.wz_machine.specs.Entered.{entered, entered_callable}
 use Rattle.wz_init.specs.Functions.{import_function, import_functions, own_functions, stored_functions, body_of_tree, function_in, functions_in}
-use Rattle.wz_init.specs.Turns.{IsWithinLimits, FunctionsAreSmall, TakesNothing}
+use Rattle.wz_init.specs.Turns.{IsWithinLimits, FunctionsAreSmall}
 
 -- ---- small bodies
 
@@ -119,7 +119,7 @@ functions_small m s profile same function term is =
     subst (λ (o : Option Standing). IsSmallStanding o) is
     (small_place s.types (slice_get s.functions function) (λ f there. all_at (λ (f : FunctionInstance). IsSmallBody f.body) s.functions small function f there))
 
--- ---- functions that take nothing
+-- ---- the types of functions
 
 abbrev pub signatures : List FunctionInstance → List ℕ
 signatures fs = map (λ (f : FunctionInstance). f.signature) fs
@@ -153,33 +153,6 @@ abbrev pub type_at : List FunctionType → Option ℕ → Option FunctionType
 type_at types None = None
 type_at types (Some number) = slice_get types number
 
-type_of : (type : Option FunctionType) (body : FunctionBody) (c : Callable) → callable_of type body ≡ Some c → type ≡ Some c.type
-type_of None body c e = absurd (none-some c e)
-type_of (Some type) (OwnBody locals code) c e = ap (λ (o : Option Callable). option_map (λ (x : Callable). x.type) o) e
-type_of (Some type) (ImportedBody number) c e = ap (λ (o : Option Callable). option_map (λ (x : Callable). x.type) o) e
-type_of (Some type) NoBody c e = absurd (none-some c e)
-
-type_from : (types : List FunctionType) (o : Option FunctionInstance) (c : Callable) → callable_from types o ≡ Some c
-    → type_at types (option_map (λ (f : FunctionInstance). f.signature) o) ≡ Some c.type
-type_from types None c e = absurd (none-some c e)
-type_from types (Some f) c e = type_of (slice_get types f.signature) f.body c e
-
 pub type_in : (m : Module) (function : ℕ) (number : Option ℕ) → slice_get (all_functions m) function ≡ number → function_type (context_of m) function ≡ type_at m.types number
 type_in m function None e = ap (λ (o : Option ℕ). type_at m.types o) e
 type_in m function (Some number) e = ap (λ (o : Option ℕ). type_at m.types o) e
-
-abbrev params_in : Option FunctionType → List ValType
-params_in None = []
-params_in (Some type) = type.params
-
-pub takes_nothing : (m : Module) (s : State) (function : ℕ) → s.types ≡ m.types → s.functions ≡ functions_in m
-    → function_type (context_of m) function ≡ Some (record { params = []; results = [] }) → TakesNothing s function
-takes_nothing m s function types functions is c e =
-    let at : slice_get (all_functions m) function ≡ option_map (λ (f : FunctionInstance). f.signature) (slice_get (functions_in m) function) =
-    ap (λ (fs : List ℕ). slice_get fs function) (sym (signatures_in m)) ∙ slice_get-map (λ (f : FunctionInstance). f.signature) (functions_in m) function in
-    let here : callable_at m.types (functions_in m) function ≡ Some c =
-    ap (λ (ts : List FunctionType). callable_at ts (functions_in m) function) (sym types)
-    ∙ ap (λ (fs : List FunctionInstance). callable_at s.types fs function) (sym functions) ∙ e in
-    ap (λ (o : Option FunctionType). params_in o)
-    (sym (type_from m.types (slice_get (functions_in m) function) c here)
-    ∙ sym (type_in m function (option_map (λ (f : FunctionInstance). f.signature) (slice_get (functions_in m) function)) at) ∙ is)

@@ -1,5 +1,5 @@
 -- What a machine's tick leaves is what a run asks of it.
-use Rattle.std.proofs.Common.{◌≡◌, ◌<◌, Bool, true, false, ℕ, zero, suc, length, ◌+◌, List, [], ◌∷◌, Option, Some, None, take, slice_get, option_map, refl, sym, ap, subst, ◌∙◌, arith}
+use Rattle.std.proofs.Common.{◌≡◌, ◌<◌, Bool, true, false, ℕ, zero, suc, length, ◌+◌, List, [], ◌∷◌, Option, Some, None, IfSome, IsSome, take, slice_get, option_map, refl, sym, ap, subst, ◌∙◌, arith}
 use Rattle.std.proofs.lemmas.Option.{none-some, slice_get_within, get_or_from_slice_get}
 use Rattle.std.proofs.lemmas.List.Sums.{sum_by_more}
 use Rattle.wz_types.specs.declared.types.MemType.{MemType}
@@ -13,20 +13,24 @@ use Rattle.wz_machine.specs.State.{State, state_of}
 use Rattle.wz_machine.specs.Terms.{Term, AskFloat, AskMemory, AskTable, AskHost, Standing, Runs}
 use Rattle.wz_machine.specs.Outcomes.{Answer, Next, Done, Trap, Ask, Stuck}
 use Rattle.wz_machine.specs.Step.{step}
-use Rattle.wz_machine.specs.Moves.{Event}
+use Rattle.wz_machine.specs.Moves.{Event, TickMove}
 use Rattle.wz_machine.specs.Replies.{Reply, answer_reply, tick_reply}
 use Rattle.wz_machine.specs.Ticks.{event_of, tick_event}
 use Rattle.wz_machine.specs.Machines.{MachineParts, machine_state, machine_stack, IsReplied}
 use Rattle.wz_machine.specs.Laws.{ChangeReachesState}
+use Rattle.wz_machine.specs.TypedTerms.{IsMachineTyped}
+use Rattle.wz_machine.specs.TypedSteps.{IsNotStuck}
+use Rattle.wz_machine.specs.TypedLaws.{MoveKeepsTyping}
 use Rattle.wz_machine.specs.declared.advance.Advance.{Advance}
 use Rattle.wz_machine.specs.Advance.{IsAdvance, StackAdvanced}
 use Rattle.wz_init.specs.Turns.{top_term, IsAlone, IsTicked, HasTicked, HasAdvanced}
 use Rattle.wz_init.specs.Events.{turned_by}
+use Rattle.wz_init.specs.declared.turn.Turned.{Turned}
 
 -- ---- replies
 
 -- the state after a reply
-replied : ChangeReachesState → (old new : MachineParts) (reply : Reply) → IsReplied old new reply → machine_state new ≡ applied reply.change (machine_state old)
+pub replied : ChangeReachesState → (old new : MachineParts) (reply : Reply) → IsReplied old new reply → machine_state new ≡ applied reply.change (machine_state old)
 replied law old new reply h =
     ap (λ (bodies : List BodyParts). state_of bodies new.store) h.bodies ∙ ap (λ (store : StoreState). state_of old.bodies store) h.store ∙ law old.bodies old.store reply.change
 
@@ -34,7 +38,7 @@ replied law old new reply h =
 
 ticked_by : (s after : State) (term : Term) (stack : List Standing) (answer : Answer) → step s term ≡ answer
     → after ≡ applied (answer_reply term [] answer).change s → stack ≡ (answer_reply term [] answer).stack
-    → IsTicked s term (turned_by (answer_reply term [] answer).event) after stack
+    → IfSome (turned_by (answer_reply term [] answer).event) (λ turned. IsTicked s term turned after stack)
 ticked_by s after term stack (Next change new) e a b =
     (change, e ∙ ap (λ (t : Term). Next change t) (sym (ap top_term b)), a, b ∙ ap (λ (t : Term). Runs t ∷ []) (sym (ap top_term b)))
 ticked_by s after term stack (Done values) e a b = (values, e, a, b)
@@ -44,21 +48,41 @@ ticked_by s after term stack (Ask (AskMemory index by) rest) e a b = (rest, e, a
 ticked_by s after term stack (Ask (AskTable index by value) rest) e a b = (index, by, value, rest, e)
 ticked_by s after term stack (Ask (AskHost (target.Import number) arguments type) rest) e a b = (arguments, type, rest, e)
 ticked_by s after term stack (Ask (AskHost (target.Foreign id) arguments type) rest) e a b = (arguments, type, rest, e)
-ticked_by s after term stack Stuck e a b = e
+ticked_by s after term stack Stuck e a b = tt
 
-pub ticked : ChangeReachesState → (old new : MachineParts) (tick : Tick) → IsAlone (machine_stack old)
+pub ticked : ChangeReachesState → (old new : MachineParts) (tick : Tick) (turned : Turned) → IsAlone (machine_stack old)
     → event_of tick ≡ tick_event (machine_state old) (machine_stack old)
-    → IsReplied old new (tick_reply (machine_state old) (machine_stack old))
-    → IsTicked (machine_state old) (top_term (machine_stack old)) (turned_by (event_of tick)) (machine_state new) (machine_stack new)
-ticked law old new tick alone event reply =
+    → IsReplied old new (tick_reply (machine_state old) (machine_stack old)) → turned_by (event_of tick) ≡ Some turned
+    → IsTicked (machine_state old) (top_term (machine_stack old)) turned (machine_state new) (machine_stack new)
+ticked law old new tick turned alone event reply is =
     let s = machine_state old in
     let term = top_term (machine_stack old) in
     let state = replied law old new (tick_reply s (machine_stack old)) reply in
-    subst (λ (e : Event). IsTicked s term (turned_by e) (machine_state new) (machine_stack new))
-    (sym (event ∙ ap (λ (stack : List Standing). tick_event s stack) alone))
+    let shown = ap (λ (e : Event). turned_by e) (sym (event ∙ ap (λ (stack : List Standing). tick_event s stack) alone)) ∙ is in
+    subst (λ (o : Option Turned). IfSome o (λ turned. IsTicked s term turned (machine_state new) (machine_stack new))) shown
     (ticked_by s (machine_state new) term (machine_stack new) (step s term) refl
     (state ∙ ap (λ (stack : List Standing). applied (tick_reply s stack).change s) alone)
     (reply.stack ∙ ap (λ (stack : List Standing). (tick_reply s stack).stack) alone))
+
+-- what is seen of a tick that isn't stuck
+seen_by : (term : Term) (answer : Answer) → IsNotStuck (answer_reply term [] answer).event → IsSome (turned_by (answer_reply term [] answer).event)
+seen_by term (Next change new) h = refl
+seen_by term (Done values) h = refl
+seen_by term (Trap kind) h = refl
+seen_by term (Ask (AskFloat op operands) rest) h = refl
+seen_by term (Ask (AskMemory index by) rest) h = refl
+seen_by term (Ask (AskTable index by value) rest) h = refl
+seen_by term (Ask (AskHost (target.Import number) arguments type) rest) h = refl
+seen_by term (Ask (AskHost (target.Foreign id) arguments type) rest) h = refl
+seen_by term Stuck h = absurd h
+
+pub seen : MoveKeepsTyping → (s : State) (stack : List Standing) (tick : Tick) → IsMachineTyped s stack → IsAlone stack → event_of tick ≡ tick_event s stack
+    → IsSome (turned_by (event_of tick))
+seen law s stack tick typed alone event =
+    let term = top_term stack in
+    let goes : IsNotStuck (answer_reply term [] (step s term)).event =
+    subst (λ (x : List Standing). IsNotStuck (tick_reply s x).event) alone (law [] s stack TickMove typed).event in
+    subst (λ (e : Event). IsSome (turned_by e)) (sym (event ∙ ap (λ (x : List Standing). tick_event s x) alone)) (seen_by term (step s term) goes)
 
 -- ---- many ticks
 

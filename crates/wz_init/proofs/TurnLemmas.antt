@@ -14,9 +14,10 @@ use Rattle.wz_machine.specs.Step.{outcome_reduct, code_reduct, inside_reduct, fr
 use Rattle.wz_machine.specs.Next.{next}
 use Rattle.wz_machine.specs.Frames.{frames_inside, locals_inside, frame_count, local_count}
 use Rattle.wz_machine.specs.Replies.{put, put_inside}
+use Rattle.wz_machine.specs.TypedTerms.{IsMachineTyped}
 use Rattle.wz_machine.proofs.LeafLemmas.{if-both}
 use Rattle.wz_types.specs.declared.value.Value.TheVariants.{I32}
-use Rattle.wz_init.specs.Run.{Stop, FramesAreTooMany, LocalsAreTooMany, RunEnd, Returned, Stopped, TableWouldChange, Trapped, NoRuleFits, FloatIsAsked, ImportIsCalled, too_much, within_limits, granted_growth, growth_value, run_from}
+use Rattle.wz_init.specs.Run.{Stop, FramesAreTooMany, LocalsAreTooMany, RunEnd, Returned, Stopped, TableWouldChange, Trapped, FloatIsAsked, ImportIsCalled, too_much, within_limits, granted_growth, growth_value, run_from}
 use Rattle.wz_code.specs.declared.numeric.NumOp.{NumOp}
 use Rattle.wz_machine.specs.declared.questions.HostTarget.TheVariants as target
 use Rattle.wz_init.specs.declared.turn.Turned.TheVariants as turned
@@ -176,19 +177,25 @@ module _ (s after : State) (stack : List Standing) (term : Term) (spares : head_
   went_beyond t phase fault.TooManyFrameLocals h fuel ticks =
       run_step fuel ticks s term (Next t.0 (top_term stack)) spares t.1
       ∙ ap (λ (o : Option Stop). within_limits (λ new. run_from fuel (ticks + 1) (applied t.0 s) new) (top_term stack) o) h
-  went_beyond t phase fault.Stuck h fuel ticks = absurd h
   went_beyond t phase fault.NoMemory h fuel ticks = absurd h
 
-  pub went_running : IsTicked s term turned.Went after stack → IsWithinLimits (top_term stack) → HoldsOwn s → TermOwn term → IsRunning after stack
-  went_running t within own holds =
+  pub went_running : IsTicked s term turned.Went after stack → IsMachineTyped after stack → IsWithinLimits (top_term stack) → HoldsOwn s → TermOwn term
+      → IsRunning after stack
+  went_running t typed within own holds =
       let fine = subst (λ (a : Answer). AnswerFine s a) t.1 (step_fine s term spares own holds) in
-      record { alone = t.3; within = within; own = subst (λ (x : State). HoldsOwn x) (sym t.2) (own_on s t.0 own fine.0); holds = fine.1 }
+      record {
+        typed = typed;
+        alone = t.3;
+        within = within;
+        own = subst (λ (x : State). HoldsOwn x) (sym t.2) (own_on s t.0 own fine.0);
+        holds = fine.1;
+      }
 
   pub ended_run : IsTicked s term turned.Ended after stack → (fuel ticks : ℕ) → run_from (suc fuel) ticks s term ≡ Returned after fuel (ticks + 1)
   ended_run t fuel ticks = run_step fuel ticks s term (Done t.0) spares t.1 ∙ ap (λ (x : State). Returned x fuel (ticks + 1)) (sym t.2)
 
-  pub ended : IsTicked s term turned.Ended after stack → HoldsOwn s → HasEnded after stack
-  ended t own = record { own = subst (λ (x : State). HoldsOwn x) (sym t.2) own; empty = t.3 }
+  pub ended : IsTicked s term turned.Ended after stack → IsMachineTyped after stack → HoldsOwn s → HasEnded after stack
+  ended t typed own = record { typed = typed; own = subst (λ (x : State). HoldsOwn x) (sym t.2) own; empty = t.3 }
 
   pub asked_here : (index by : ℕ) → IsTicked s term (turned.Memory index by) after stack → HoldsOwn s → TermOwn term → IsAskedHere after stack index by
   asked_here index by t own holds =
@@ -214,13 +221,14 @@ module _ (s after : State) (stack : List Standing) (term : Term) (spares : head_
 
   pub grown_running : (index by : ℕ) (last : State) (now : List Standing) → IsTicked s term (turned.Memory index by) after stack
       → last ≡ applied (granted_growth after index by) after → now ≡ Runs (put (growth_value after index by ∷ []) (top_term stack)) ∷ []
-      → IsWithinLimits term → HoldsOwn s → TermOwn term → IsRunning last now
-  grown_running index by last now t e e' within own holds =
+      → IsMachineTyped last now → IsWithinLimits term → HoldsOwn s → TermOwn term → IsRunning last now
+  grown_running index by last now t e e' typed within own holds =
       let fine = subst (λ (a : Answer). AnswerFine s a) t.1 (step_fine s term spares own holds) in
       let rest : top_term stack ≡ t.0 = ap (λ (x : List Standing). top_term x) t.3 in
       let top : top_term now ≡ put (growth_value after index by ∷ []) t.0 =
       ap (λ (x : List Standing). top_term x) e' ∙ ap (λ (x : Term). put (growth_value after index by ∷ []) x) rest in
       record {
+        typed = typed;
         alone = e' ∙ ap (λ (x : Term). Runs x ∷ []) (sym (ap (λ (x : List Standing). top_term x) e'));
         within = subst (λ (x : Term). IsWithinLimits x) (sym top)
             (put_within s term t.0 (AskMemory index by) (growth_value after index by ∷ []) t.1 within);
@@ -242,11 +250,9 @@ module _ (s after : State) (stack : List Standing) (term : Term) (spares : head_
       → run_from (suc fuel) ticks s term ≡ Stopped (ImportIsCalled import)
   import_run import t fuel ticks = run_step fuel ticks s term (Ask (AskHost (target.Import import) t.0 t.1) t.2) spares t.3
 
-  pub foreign_run : (id : ℕ) → IsTicked s term (turned.Foreign id) after stack → (fuel ticks : ℕ) → run_from (suc fuel) ticks s term ≡ Stopped NoRuleFits
-  foreign_run id t fuel ticks = run_step fuel ticks s term (Ask (AskHost (target.Foreign id) t.0 t.1) t.2) spares t.3
-
-  pub stuck_run : IsTicked s term turned.Stuck after stack → (fuel ticks : ℕ) → run_from (suc fuel) ticks s term ≡ Stopped NoRuleFits
-  stuck_run t fuel ticks = run_step fuel ticks s term Stuck spares t
+  -- no reference leads to a function of the host
+  pub foreign_never : (id : ℕ) → IsTicked s term (turned.Foreign id) after stack → HoldsOwn s → TermOwn term → ⊥
+  foreign_never id t own holds = (subst (λ (a : Answer). AnswerFine s a) t.3 (step_fine s term spares own holds)).0
 
 -- ---- many ticks, none of which entered a function
 
@@ -254,10 +260,10 @@ module _ (made : ℕ) (s after : State) (term : Term) (stack : List Standing) (t
   pub reached_run : (fuel left : ℕ) → fuel ≡ made + left → (ticks : ℕ) → run_from fuel ticks s term ≡ run_from left (ticks + made) after (top_term stack)
   reached_run fuel left e ticks = ap (λ (n : ℕ). run_from n ticks s term) e ∙ reaches_run made s after term (top_term stack) ticked within left ticks
 
-  pub reached_running : IsAlone stack → HoldsOwn s → TermOwn term → IsRunning after stack
-  reached_running alone own holds =
+  pub reached_running : IsMachineTyped after stack → IsAlone stack → HoldsOwn s → TermOwn term → IsRunning after stack
+  reached_running typed alone own holds =
       let both = reaches_own made s after term (top_term stack) ticked own holds in
-      record { alone = alone; within = reaches_within made s after term (top_term stack) ticked within; own = both.0; holds = both.1 }
+      record { typed = typed; alone = alone; within = reaches_within made s after term (top_term stack) ticked within; own = both.0; holds = both.1 }
 
 -- ---- many ticks, the last of which entered a function
 
@@ -287,12 +293,11 @@ module _ (made : ℕ) (s after : State) (term : Term) (stack : List Standing) (t
   entered_beyond fuel left e phase fault.TableChanged b ticks = absurd b
   entered_beyond fuel left e phase fault.TooManyFrames b ticks = by_limits fuel left ticks (Some FramesAreTooMany) e b
   entered_beyond fuel left e phase fault.TooManyFrameLocals b ticks = by_limits fuel left ticks (Some LocalsAreTooMany) e b
-  entered_beyond fuel left e phase fault.Stuck b ticks = absurd b
   entered_beyond fuel left e phase fault.NoMemory b ticks = absurd b
 
-  pub entered_running : IsAlone stack → IsWithinLimits (top_term stack) → HoldsOwn s → TermOwn term → IsRunning after stack
-  entered_running alone there own holds =
-      let both = entry_own made s after term (top_term stack) ticked own holds in record { alone = alone; within = there; own = both.0; holds = both.1 }
+  pub entered_running : IsMachineTyped after stack → IsAlone stack → IsWithinLimits (top_term stack) → HoldsOwn s → TermOwn term → IsRunning after stack
+  entered_running typed alone there own holds =
+      let both = entry_own made s after term (top_term stack) ticked own holds in record { typed = typed; alone = alone; within = there; own = both.0; holds = both.1 }
 
 -- all the fuel was used
 pub round_spent : (fuel made ticks : ℕ) (s after : State) (term new : Term) → fuel - made ≡ 0 → made ≤ fuel

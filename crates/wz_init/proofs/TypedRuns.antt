@@ -136,12 +136,13 @@ abbrev nullary : FunctionType
 nullary = record { params = []; results = [] }
 
 -- it may be entered without arguments
-plain_takes : (m : Module) (s : State) (function : ℕ) → IsTypedInstance m s → IsPlainFunction m function → IsTrue (takes_values s (callable_at s.types s.functions function) [])
-plain_takes m s function kept plain =
+pub plain_takes : (m : Module) (s : State) (function : ℕ) → IsSelfTyped s → lasting_parts s ≡ lasting_of m → IsPlainFunction m function
+    → IsTrue (takes_values s (callable_at s.types s.functions function) [])
+plain_takes m s function typed parts plain =
     let at : slice_get (all_functions m) function ≡ option_map (λ (f : FunctionInstance). f.signature) (slice_get s.functions function) =
-    ap (λ (fs : List ℕ). slice_get fs function) (sym (functions_by s m kept.parts)) ∙ slice_get-map (λ (f : FunctionInstance). f.signature) s.functions function in
+    ap (λ (fs : List ℕ). slice_get fs function) (sym (functions_by s m parts)) ∙ slice_get-map (λ (f : FunctionInstance). f.signature) s.functions function in
     let type : type_at s.types (option_map (λ (f : FunctionInstance). f.signature) (slice_get s.functions function)) ≡ Some nullary =
-    ap (λ (p : LastingParts). type_at p.types (option_map (λ (f : FunctionInstance). f.signature) (slice_get s.functions function))) kept.parts
+    ap (λ (p : LastingParts). type_at p.types (option_map (λ (f : FunctionInstance). f.signature) (slice_get s.functions function))) parts
     ∙ sym (type_in m function (option_map (λ (f : FunctionInstance). f.signature) (slice_get s.functions function)) at) ∙ plain in
     there (slice_get s.functions function) refl type
   where
@@ -160,7 +161,7 @@ plain_takes m s function kept plain =
         → type_at s.types (option_map (λ (f : FunctionInstance). f.signature) o) ≡ Some nullary
         → IsTrue (takes_values s (callable_from s.types o) [])
     there None here e = absurd (cc e)
-    there (Some f) here e = body (slice_get s.types f.signature) f.body e (kept.typed.functions function f here)
+    there (Some f) here e = body (slice_get s.types f.signature) f.body e (typed.functions function f here)
 
 -- ---- the run
 
@@ -231,7 +232,7 @@ module _ (laws : TypingLaws) (m : Module) where
   run_kept : (s : State) (function fuel ticks : ℕ) → IsTypedInstance m s → IsPlainFunction m function → IsEndKept m (run s function fuel ticks)
   unfolding run
   run_kept s function fuel ticks kept plain =
-      standing_kept fuel ticks s (entered s function []) kept (laws.entries s function [] kept.typed (plain_takes m s function kept plain))
+      standing_kept fuel ticks s (entered s function []) kept (laws.entries s function [] kept.typed (plain_takes m s function kept.typed kept.parts plain))
       (laws.own_entries is_own s function [] laws.own_test tt)
 
   -- ---- all phases

@@ -10,24 +10,23 @@ use Rattle.wz_init.specs.declared.turn.Turned.TheVariants as turned
 use Rattle.wz_init.specs.declared.turn.Entered.{Entered}
 use Rattle.wz_init.specs.declared.turn.Entered.TheVariants as entry
 
--- a tick of a term that stands shows no other event than these
-abbrev pub turned_by : Event → Turned
-turned_by Went = turned.Went
-turned_by (DoneEvent values) = turned.Ended
-turned_by (Trapped kind) = turned.Trapped kind
-turned_by StuckEvent = turned.Stuck
-turned_by (FloatAsked op operands) = turned.Float op
-turned_by (GrowAsked (growth.Memory index by)) = turned.Memory index by
-turned_by (GrowAsked (growth.Table index by)) = turned.Table
-turned_by (HostCall (target.Import number) arguments) = turned.Import number
-turned_by (HostCall (target.Foreign id) arguments) = turned.Foreign id
-turned_by Refused = turned.Stuck
-turned_by (BytesRead bytes) = turned.Stuck
-turned_by (HeldSize size) = turned.Stuck
-turned_by (HeldValue value) = turned.Stuck
+-- a tick of a typed term that stands shows no other event than these
+abbrev pub turned_by : Event → Option Turned
+turned_by Went = Some turned.Went
+turned_by (DoneEvent values) = Some turned.Ended
+turned_by (Trapped kind) = Some (turned.Trapped kind)
+turned_by (FloatAsked op operands) = Some (turned.Float op)
+turned_by (GrowAsked (growth.Memory index by)) = Some (turned.Memory index by)
+turned_by (GrowAsked (growth.Table index by)) = Some turned.Table
+turned_by (HostCall (target.Import number) arguments) = Some (turned.Import number)
+turned_by (HostCall (target.Foreign id) arguments) = Some (turned.Foreign id)
+turned_by StuckEvent = None
+turned_by Refused = None
+turned_by (BytesRead bytes) = None
+turned_by (HeldSize size) = None
+turned_by (HeldValue value) = None
 
--- what entering a function comes to, by what the store has of it
-abbrev pub entered_as : Option Function → Entered
-entered_as None = entry.Missing
-entered_as (Some (stored.Own signature body)) = entry.Own
-entered_as (Some (stored.Import signature import)) = entry.Import import
+-- what entering a function comes to
+abbrev pub entered_as : Function → Entered
+entered_as (stored.Own signature body) = entry.Own
+entered_as (stored.Import signature import) = entry.Import import

@@ -12,7 +12,7 @@ use Rattle.wz_init.specs.declared.faults.InitFault.TheVariants as fault
 use Rattle.wz_init.specs.States.{state_in}
 use Rattle.wz_init.specs.Instances.{Instance, ElementUnfit, DataUnfit, NoInstance, Fresh}
 use Rattle.wz_init.specs.Instantiation.{fresh}
-use Rattle.wz_init.specs.Run.{Stop, FuelIsSpent, TableWouldChange, FramesAreTooMany, LocalsAreTooMany, Trapped, NoRuleFits, FloatIsAsked, ImportIsCalled, RunEnd, Returned, Stopped, run}
+use Rattle.wz_init.specs.Run.{Stop, FuelIsSpent, TableWouldChange, FramesAreTooMany, LocalsAreTooMany, Trapped, FloatIsAsked, ImportIsCalled, RunEnd, Returned, Stopped, run}
 
 pub data Ready : Type 0 where
   -- the state that the last function left, and the ticks of all of them
@@ -72,7 +72,6 @@ IsFaultOf end (fault.FloatUsed op) = (phase : Phase) × (end ≡ StoppedIn phase
 IsFaultOf end fault.TableChanged = (phase : Phase) × (end ≡ StoppedIn phase TableWouldChange)
 IsFaultOf end fault.TooManyFrames = (phase : Phase) × (end ≡ StoppedIn phase FramesAreTooMany)
 IsFaultOf end fault.TooManyFrameLocals = (phase : Phase) × (end ≡ StoppedIn phase LocalsAreTooMany)
-IsFaultOf end fault.Stuck = (phase : Phase) × (end ≡ StoppedIn phase NoRuleFits)
 IsFaultOf end fault.NoMemory = Unit {0}
 
 abbrev pub IsRefused : Module → RunOrder → InitFault → Type 0

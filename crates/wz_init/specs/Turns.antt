@@ -7,8 +7,9 @@ use Rattle.wz_store.specs.Changes.{Change, applied}
 use Rattle.wz_machine.specs.declared.questions.HostTarget.TheVariants as target
 use Rattle.wz_machine.specs.State.{State, Callable, callable_at}
 use Rattle.wz_machine.specs.Terms.{Term, BareValues, AskFloat, AskMemory, AskTable, AskHost, Standing, Runs, Waits}
-use Rattle.wz_machine.specs.Outcomes.{Next, Done, Trap, Ask, Stuck}
+use Rattle.wz_machine.specs.Outcomes.{Next, Done, Trap, Ask}
 use Rattle.wz_machine.specs.Step.{step}
+use Rattle.wz_machine.specs.TypedTerms.{IsMachineTyped}
 use Rattle.wz_machine.specs.Frames.{frame_count, local_count}
 use Rattle.wz_init.specs.declared.turn.Turned.{Turned}
 use Rattle.wz_init.specs.declared.turn.Turned.TheVariants as turned
@@ -21,7 +22,7 @@ use Rattle.wz_init.specs.declared.order.Phase.{Phase}
 use Rattle.wz_init.specs.declared.order.RunOrder.{RunOrder}
 use Rattle.wz_init.specs.declared.faults.InitFault.{InitFault}
 use Rattle.wz_init.specs.declared.faults.InitFault.TheVariants as fault
-use Rattle.wz_init.specs.Run.{FuelIsSpent, TableWouldChange, FramesAreTooMany, LocalsAreTooMany, Trapped, NoRuleFits, FloatIsAsked, ImportIsCalled, RunEnd, Returned, Stopped, frames_limit, all_locals_limit, too_much, run_from}
+use Rattle.wz_init.specs.Run.{FuelIsSpent, TableWouldChange, FramesAreTooMany, LocalsAreTooMany, Trapped, FloatIsAsked, ImportIsCalled, RunEnd, Returned, Stopped, frames_limit, all_locals_limit, too_much, run_from}
 use Rattle.wz_init.specs.Reached.{HoldsOwn, TermOwn}
 use Rattle.wz_machine.specs.declared.advance.Advance.{Advance}
 use Rattle.wz_machine.specs.Advance.{Reaches, ReachesEntry}
@@ -48,7 +49,6 @@ IsTicked s term turned.Went after stack =
     (change : Change) × (step s term ≡ Next change (top_term stack)) × (after ≡ applied change s) × IsAlone stack
 IsTicked s term turned.Ended after stack = (values : List Value) × (step s term ≡ Done values) × (after ≡ s) × (stack ≡ [])
 IsTicked s term (turned.Trapped kind) after stack = step s term ≡ Trap kind
-IsTicked s term turned.Stuck after stack = step s term ≡ Stuck
 IsTicked s term (turned.Float op) after stack = (operands : List Value) × (rest : Term) × (step s term ≡ Ask (AskFloat op operands) rest)
 IsTicked s term (turned.Memory index by) after stack =
     (rest : Term) × (step s term ≡ Ask (AskMemory index by) rest) × (after ≡ s) × (stack ≡ Waits (AskMemory index by) rest ∷ [])
@@ -70,7 +70,6 @@ StopsBy phase end (fault.FloatUsed op) = end ≡ Stopped (FloatIsAsked op)
 StopsBy phase end fault.TableChanged = end ≡ Stopped TableWouldChange
 StopsBy phase end fault.TooManyFrames = end ≡ Stopped FramesAreTooMany
 StopsBy phase end fault.TooManyFrameLocals = end ≡ Stopped LocalsAreTooMany
-StopsBy phase end fault.Stuck = end ≡ Stopped NoRuleFits
 StopsBy phase end fault.NoMemory = Unit {0}
 
 -- what is left of the run after a turn that went on, or ended it, at whatever fuel and ticks
@@ -85,15 +84,16 @@ abbrev pub IsEntered : State → ℕ → Entered → State → List Standing →
 IsEntered s function entry.Own after stack = (entered s function [] ≡ Some (Runs (top_term stack))) × (after ≡ s) × IsAlone stack
 IsEntered s function (entry.Import number) after stack =
     (type : FunctionType) × (rest : Term) × (entered s function [] ≡ Some (Waits (AskHost (target.Import number) [] type) rest))
-IsEntered s function entry.Missing after stack = entered s function [] ≡ None
 
 -- each function's term begins within the limits
 abbrev pub FunctionsAreSmall : State → Type 0
 FunctionsAreSmall s = (function : ℕ) (term : Term) → entered s function [] ≡ Some (Runs term) → IsWithinLimits term
 
--- a function without parameters, where it is there
-abbrev pub TakesNothing : State → ℕ → Type 0
-TakesNothing s function = (callable : Callable) → callable_at s.types s.functions function ≡ Some callable → callable.type.params ≡ []
+-- a function without parameters, which is there
+pub record TakesNothing (s : State) (function : ℕ) : Type 0 where
+  pub callable : Callable
+  pub there : callable_at s.types s.functions function ≡ Some callable
+  pub takes : callable.type.params ≡ []
 
 -- the same of a phase's function, if it has one
 abbrev pub PhaseTakesNothing : State → Option ℕ → Type 0
@@ -112,8 +112,9 @@ KeepsTakingNothing s after = (function : ℕ) → TakesNothing s function → Ta
 
 -- ---- the machine, from turn to turn
 
--- one term stands, which runs, within the limits and without references to something of the host
+-- one term stands, which is typed and runs, within the limits and without references to something of the host
 pub record IsRunning (s : State) (stack : List Standing) : Type 0 where
+  pub typed : IsMachineTyped s stack
   pub alone : IsAlone stack
   pub within : IsWithinLimits (top_term stack)
   pub own : HoldsOwn s
@@ -121,6 +122,7 @@ pub record IsRunning (s : State) (stack : List Standing) : Type 0 where
 
 -- the function has returned
 pub record HasEnded (s : State) (stack : List Standing) : Type 0 where
+  pub typed : IsMachineTyped s stack
   pub own : HoldsOwn s
   pub empty : stack ≡ []
 
@@ -143,7 +145,6 @@ IsBeyond term (fault.FloatUsed op) = ⊥
 IsBeyond term fault.TableChanged = ⊥
 IsBeyond term fault.TooManyFrames = too_much term ≡ Some FramesAreTooMany
 IsBeyond term fault.TooManyFrameLocals = too_much term ≡ Some LocalsAreTooMany
-IsBeyond term fault.Stuck = ⊥
 IsBeyond term fault.NoMemory = ⊥
 
 -- so many ticks went on, and the last of them entered a function, or none did

@@ -42,8 +42,6 @@ pub enum InitFault {
     TooManyFrames,
     /// The frames would have more than 4,000,000 locals together.
     TooManyFrameLocals,
-    /// No rule of the standard fits.
-    Stuck,
     NoMemory,
 }
 

@@ -5,6 +5,7 @@ ghost use Rattle.std.specs.Bool.{OnTrue, OnFalse};
 ghost use Rattle.wz_store.specs.Changes.{applied};
 ghost use Rattle.wz_machine.specs.Terms.{Runs};
 ghost use Rattle.wz_machine.specs.Replies.{put};
+ghost use Rattle.wz_machine.specs.TypedTerms.{IsMachineTyped};
 ghost use Rattle.wz_init.specs.Run.{Returned, granted_growth, growth_value, run_from, run};
 ghost use Rattle.wz_init.specs.Turns.{top_term, IsAlone, IsWithinLimits, IsRunning, HasEnded};
 ghost use Rattle.wz_init.specs.Turns.{IsAskedHere, IsBeyond, IsTurned, IsRound, StopsBy};
@@ -40,12 +41,14 @@ fn check_limits<S: Steps>(machine: &S) -> Result<(), InitFault>
 
 /// Grants the growth where all memories together stay within the limit.
 fn grow<S: Steps>(machine: &mut S, index: u32, by: u32) -> Result<(), InitFault>
-    requires { IsAskedHere (S.state machine.old) (S.stack machine.old) index by }
+    requires asked { IsAskedHere (S.state machine.old) (S.stack machine.old) index by }
+    requires typed { IsMachineTyped (S.state machine.old) (S.stack machine.old) }
     ensures state { OnOk result (S.state machine.new ≡
         applied (granted_growth (S.state machine.old) index by) (S.state machine.old)) }
     ensures stack { OnOk result (S.stack machine.new ≡
         Runs (put (growth_value (S.state machine.old) index by ∷ [])
         (top_term (S.stack machine.old))) ∷ []) }
+    ensures typed { OnOk result (IsMachineTyped (S.state machine.new) (S.stack machine.new)) }
     ensures bodies { OnOk result (S.bodies machine.new ≡ S.bodies machine.old) }
     ensures refused { IfErr result (λ fault. fault ≡ InitFault.NoMemory) }
 {
@@ -87,8 +90,8 @@ fn turn<S: Steps>(machine: &mut S, phase: Phase) -> Result<bool, InitFault>
         Turned::Float(op) => Err(InitFault::FloatUsed { op }),
         Turned::Table => Err(InitFault::TableChanged),
         Turned::Import(import) => Err(InitFault::ImportCalled { import }),
-        Turned::Foreign(_) => Err(InitFault::Stuck),
-        Turned::Stuck => Err(InitFault::Stuck),
+        // no reference to a function of the host ever came in
+        Turned::Foreign(_) => unreachable!(),
     }
 }
 
@@ -166,6 +169,5 @@ pub(crate) fn run_function<S: Steps>(
     match machine.enter(function)? {
         Entered::Own => run_term(machine, phase, fuel),
         Entered::Import(import) => Err(InitFault::ImportCalled { import }),
-        Entered::Missing => Err(InitFault::Stuck),
     }
 }

@@ -1,6 +1,6 @@
 //! The machine makes the ticks of a run.
 
-ghost use Rattle.std.specs.Prelude.{◌≡◌, ◌≤◌, ◌∷◌, [], Some, None, IfOk, OnOk};
+ghost use Rattle.std.specs.Prelude.{◌≡◌, ◌≤◌, ◌∷◌, [], Some, IsSome, IfOk, OnOk};
 ghost use Rattle.wz_store.specs.Changes.{applied};
 ghost use Rattle.wz_machine.specs.Terms.{Runs};
 ghost use Rattle.wz_machine.specs.Advance.{head_changes_table};
@@ -10,6 +10,7 @@ ghost use Rattle.wz_machine.specs.Ticks.{event_of, asked_event};
 ghost use Rattle.wz_machine.specs.Frames.{frame_count, local_count};
 ghost use Rattle.wz_machine.specs.Machines.{machine_state, machine_stack};
 ghost use Rattle.wz_machine.specs.Moves.{GrowAsked, HostCall};
+ghost use Rattle.wz_machine.specs.TypedTerms.{IsMachineTyped};
 ghost use Rattle.wz_init.specs.Run.{is_granted, granted_growth, growth_value};
 ghost use Rattle.wz_store.specs.State.{pages_together};
 ghost use Rattle.wz_init.specs.Turns.{top_term, IsAlone, IsEntered, IsTicked, IsAskedHere};
@@ -37,7 +38,7 @@ fn would_change_table<'m, M: Linear>(machine: &Machine<'m, M>) -> bool
 }
 
 fn called(target: HostTarget) -> Turned
-    ensures { result ≡ turned_by (HostCall target []) }
+    ensures { turned_by (HostCall target []) ≡ Some result }
 {
     match target {
         HostTarget::Import(number) => Turned::Import(number),
@@ -46,7 +47,7 @@ fn called(target: HostTarget) -> Turned
 }
 
 fn growing(growth: Growth) -> Turned
-    ensures { result ≡ turned_by (GrowAsked growth) }
+    ensures { turned_by (GrowAsked growth) ≡ Some result }
 {
     match growth {
         Growth::Memory { index, by } => Turned::Memory { index, by },
@@ -55,7 +56,7 @@ fn growing(growth: Growth) -> Turned
 }
 
 fn asked(ask: &Ask) -> Turned
-    ensures { result ≡ turned_by (asked_event ask.now) }
+    ensures { turned_by (asked_event ask.now) ≡ Some result }
 {
     match ask {
         Ask::Float { op, operands: _ } => Turned::Float(*op),
@@ -64,80 +65,97 @@ fn asked(ask: &Ask) -> Turned
     }
 }
 
+/// What a tick of a typed term came to.
 fn turned(tick: &Tick) -> Turned
-    ensures { result ≡ turned_by (event_of tick.now) }
+    requires { IsSome (turned_by (event_of tick.now)) }
+    ensures { turned_by (event_of tick.now) ≡ Some result }
 {
     match tick {
         Tick::Went => Turned::Went,
         Tick::Done(_) => Turned::Ended,
         Tick::Trapped(kind) => Turned::Trapped(*kind),
         Tick::Asked(ask) => asked(ask),
-        Tick::Idle | Tick::Stuck => Turned::Stuck,
+        // a term stands, and it is typed
+        Tick::Idle | Tick::Stuck => unreachable!(),
     }
 }
 
 /// A tick of the only term.
 fn tick<'m, M: Linear>(machine: &mut Machine<'m, M>) -> Result<Turned, AllocError>
-    requires { IsAlone (machine_stack machine.old) }
+    requires alone { IsAlone (machine_stack machine.old) }
+    requires typed { IsMachineTyped (machine_state machine.old) (machine_stack machine.old) }
     ensures ticked { IfOk result (λ turned. IsTicked (machine_state machine.old)
         (top_term (machine_stack machine.old)) turned (machine_state machine.new)
         (machine_stack machine.new)) }
+    ensures typed { OnOk result
+        (IsMachineTyped (machine_state machine.new) (machine_stack machine.new)) }
     ensures bodies { OnOk result (machine.new.bodies ≡ machine.old.bodies) }
 {
+    // a move keeps the typing, and isn't stuck
     wz_machine::laws::steps_write();
+    wz_machine::laws::never_stuck();
     let tick = machine.tick()?;
     Ok(turned(&tick))
 }
 
 /// Many ticks of the only term.
 fn advance<'m, M: Linear>(machine: &mut Machine<'m, M>, limit: u64) -> Result<Advance, AllocError>
-    requires { IsAlone (machine_stack machine.old) }
+    requires alone { IsAlone (machine_stack machine.old) }
+    requires typed { IsMachineTyped (machine_state machine.old) (machine_stack machine.old) }
     ensures limit { IfOk result (λ done. done.made ≤ limit) }
     ensures made { IfOk result (λ done. HasAdvanced done (machine_state machine.old)
         (top_term (machine_stack machine.old)) (machine_state machine.new)
         (machine_stack machine.new)) }
+    ensures typed { OnOk result
+        (IsMachineTyped (machine_state machine.new) (machine_stack machine.new)) }
     ensures bodies { OnOk result (machine.new.bodies ≡ machine.old.bodies) }
 {
+    // each of the steps keeps the typing
+    wz_machine::laws::typed_states();
+    wz_machine::laws::typed_terms();
     let done = machine.advance(limit)?;
     Ok(done)
 }
 
 /// What entering a function comes to.
-fn entered(function: Option<Function>) -> Entered
+fn entered(function: Function) -> Entered
     ensures { result ≡ entered_as function }
 {
     match function {
-        Some(
-            Function::Own {
-                signature: _,
-                body: _,
-            },
-        ) => Entered::Own,
-        Some(
-            Function::Import {
-                signature: _,
-                import,
-            },
-        ) => Entered::Import(import),
-        None => Entered::Missing,
+        Function::Own {
+            signature: _,
+            body: _,
+        } => Entered::Own,
+        Function::Import {
+            signature: _,
+            import,
+        } => Entered::Import(import),
     }
 }
 
 fn enter<'m, M: Linear>(machine: &mut Machine<'m, M>, function: u32) -> Result<Entered, AllocError>
     requires empty { machine_stack machine.old ≡ [] }
     requires takes { TakesNothing (machine_state machine.old) function }
+    requires typed { IsMachineTyped (machine_state machine.old) (machine_stack machine.old) }
     ensures entered { IfOk result (λ entered. IsEntered (machine_state machine.old) function
         entered (machine_state machine.new) (machine_stack machine.new)) }
+    ensures typed { OnOk result
+        (IsMachineTyped (machine_state machine.new) (machine_stack machine.new)) }
     ensures bodies { OnOk result (machine.new.bodies ≡ machine.old.bodies) }
 {
+    // a call keeps the typing
     wz_machine::laws::steps_write();
-    let stored = machine.store().function(function);
+    wz_machine::laws::never_stuck();
+    let Some(stored) = machine.store().function(function) else {
+        // the function is there
+        unreachable!()
+    };
     match machine.enter(function, &[]) {
         Ok(()) => Ok(entered(stored)),
-        Err(EnterFault::NoFunction) => Ok(Entered::Missing),
         Err(EnterFault::NoMemory) => Err(AllocError),
-        // the machine is empty, and the function takes nothing
+        // the machine is empty, and the function is there and takes nothing
         Err(EnterFault::NotNow) => unreachable!(),
+        Err(EnterFault::NoFunction) => unreachable!(),
         Err(EnterFault::Unfit) => unreachable!(),
     }
 }
@@ -165,15 +183,20 @@ fn answer_growth<'m, M: Linear>(
 ) -> Result<(), AllocError>
     requires asked { IsAskedHere (machine_state machine.old) (machine_stack machine.old) index by }
     requires granted { granted ≡ is_granted (machine_state machine.old) by }
+    requires typed { IsMachineTyped (machine_state machine.old) (machine_stack machine.old) }
     ensures state { OnOk result (machine_state machine.new ≡
         applied (granted_growth (machine_state machine.old) index by)
         (machine_state machine.old)) }
     ensures stack { OnOk result (machine_stack machine.new ≡
         Runs (put (growth_value (machine_state machine.old) index by ∷ [])
         (top_term (machine_stack machine.old))) ∷ []) }
+    ensures typed { OnOk result
+        (IsMachineTyped (machine_state machine.new) (machine_stack machine.new)) }
     ensures bodies { OnOk result (machine.new.bodies ≡ machine.old.bodies) }
 {
+    // an answer keeps the typing
     wz_machine::laws::steps_write();
+    wz_machine::laws::never_stuck();
     match machine.answer_grow(granted) {
         Ok(()) => Ok(()),
         Err(GrowFault::NoMemory) => Err(AllocError),

@@ -10,7 +10,6 @@ pub(crate) enum Turned {
     /// The function returned.
     Ended,
     Trapped(TrapKind),
-    Stuck,
     /// It asks for the result of a float operation.
     Float(NumOp),
     /// It asks whether a memory grows by so many pages.
@@ -29,10 +28,9 @@ pub(crate) enum Round {
     Returned(u64),
 }
 
-/// What entering a function comes to: its term runs, it is this import, or there is none.
+/// What entering a function comes to: its term runs, or it is this import.
 #[derive(Clone, Copy, PartialEq, Eq)]
 pub(crate) enum Entered {
     Own,
     Import(u32),
-    Missing,
 }

@@ -1,6 +1,6 @@
 -- What bytes ask for is to have them pre-initialised: the output is valid, starts where the run ended, and shows the same.
 use Rattle.std.proofs.Common.{◌≡◌, ℕ, ◌+◌, ◌≤◌, List, [], length, map, Option, None, Ok, refl, sym, ap, subst, ◌∙◌, inl, inr, arith}
-use Rattle.std.specs.Prelude.{Result}
+use Rattle.std.specs.Prelude.{Result, Some, IsSomeAnd}
 use Rattle.std.specs.List.{All, zip, sum_by}
 use Rattle.std.proofs.lemmas.List.{length-map}
 use Rattle.std.proofs.lemmas.Slice.Zip.{length-zip}
@@ -53,8 +53,9 @@ use Rattle.wz_top.specs.Devices.{IsInputFrom, HasWritten}
 use Rattle.wz_top.specs.Words.{output_name}
 use Rattle.wz_top.specs.Asked.{Asked, Answers, Delivers, asked_by, BytesAsk, SettingsAsk, OnDone, Ran}
 use Rattle.wz_top.specs.declared.outcome.Outcome.{Outcome}
-use Rattle.wz_top.specs.declared.outcome.Outcome.TheVariants.{Done}
-use Rattle.wz_top.specs.Verdict.{Verdict, Refuses, Gives, order_of, RunComes, RunAsks, ExportsAsk, ProfileAsks, ModuleAsks, IsVerdict, IsAccepted}
+use Rattle.wz_top.specs.declared.outcome.Outcome.TheVariants.{Done, Init}
+use Rattle.wz_init.specs.declared.faults.InitFault.{InitFault}
+use Rattle.wz_top.specs.Verdict.{Verdict, Refuses, Gives, order_of, stop_fault, RunComes, RunAsks, ExportsAsk, ProfileAsks, ModuleAsks, IsVerdict, IsAccepted}
 use Rattle.wz_top.specs.Refusals.{usage_outcome}
 use Rattle.wz_top.specs.FreshOutput.{StartsAs, OutputStartsAsReached}
 use Rattle.wz_top.specs.PreInitialised.{OnPreInitialised, export_instances, ReachesState, PreInitialised, GiveNames, IsWritten, OutputIsWritten, OutputIsPreInitialised}
@@ -291,6 +292,10 @@ module _ (typed : RunIsTyped) (written : OutputIsWritten) (starts : OutputStarts
   verdict_bytes (Gives report bytes) other = bytes
   verdict_bytes (Refuses refusal) other = other
 
+  no_output : (o : Option InitFault) (report : Report) (output : List ℕ) → IsSomeAnd o (λ fault. Gives report output ≡ Refuses (Init fault)) → ⊥
+  no_output None report output h = h
+  no_output (Some fault) report output h = absurd cc
+
   by_end : (s : Settings) (input : List ℕ) (m : Module) (k : KeptExports) (report : Report) (output : List ℕ) (end : Ready) → GiveNames s.renames
       → length input ≤ input_limit → IsAccepted input m → kept m s ≡ Ok k → ready m (order_of s k) ≡ end → RunComes m k end (Gives report output)
       → PreInitialised s input output
@@ -298,7 +303,7 @@ module _ (typed : RunIsTyped) (written : OutputIsWritten) (starts : OutputStarts
       let same : rewritten m state k ≡ output = ap (λ (v : Verdict). verdict_bytes v output) (sym comes) in
       subst (λ (bytes : List ℕ). PreInitialised s input bytes) same
       (by_run s input m k state ticks names short (record { accepted = accepted; keeps = keeps; ran = ran }))
-  by_end s input m k report output (StoppedIn phase stop) names short accepted keeps ran comes = absurd cc
+  by_end s input m k report output (StoppedIn phase stop) names short accepted keeps ran comes = absurd (no_output (stop_fault phase stop) report output comes)
   by_end s input m k report output (UnfitElement index) names short accepted keeps ran comes = absurd cc
   by_end s input m k report output (UnfitData index) names short accepted keeps ran comes = absurd cc
   by_end s input m k report output NeverMade names short accepted keeps ran comes = absurd comes

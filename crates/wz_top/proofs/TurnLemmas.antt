@@ -20,7 +20,7 @@ use Rattle.wz_exports.specs.declared.fault.ExportFault.TheVariants as export
 use Rattle.wz_store.specs.Made.{StoreState}
 use Rattle.wz_init.specs.declared.faults.InitFault.{InitFault}
 use Rattle.wz_init.specs.declared.faults.InitFault.TheVariants as init
-use Rattle.wz_init.specs.Run.{FuelIsSpent, TableWouldChange, FramesAreTooMany, LocalsAreTooMany, Trapped, NoRuleFits, FloatIsAsked, ImportIsCalled}
+use Rattle.wz_init.specs.Run.{FuelIsSpent, TableWouldChange, FramesAreTooMany, LocalsAreTooMany, Trapped, FloatIsAsked, ImportIsCalled}
 use Rattle.wz_init.specs.States.{state_in}
 use Rattle.wz_init.specs.Ready.{Ready, Reached, StoppedIn, UnfitElement, UnfitData, ready, IsRefused as InitRefused}
 use Rattle.wz_top.specs.Refusals.{decode_outcome, valid_outcome, export_outcome, init_outcome}
@@ -79,7 +79,6 @@ run_refused s bytes m k (init.FloatUsed op) a keeps is = run_asks s bytes m k (S
 run_refused s bytes m k init.TableChanged a keeps is = run_asks s bytes m k (StoppedIn is.0 TableWouldChange) _ a keeps is.1 refl
 run_refused s bytes m k init.TooManyFrames a keeps is = run_asks s bytes m k (StoppedIn is.0 FramesAreTooMany) _ a keeps is.1 refl
 run_refused s bytes m k init.TooManyFrameLocals a keeps is = run_asks s bytes m k (StoppedIn is.0 LocalsAreTooMany) _ a keeps is.1 refl
-run_refused s bytes m k init.Stuck a keeps is = run_asks s bytes m k (StoppedIn is.0 NoRuleFits) _ a keeps is.1 refl
 run_refused s bytes m k init.NoMemory a keeps is = tt
 
 -- the output of the state that was reached, with its report

@@ -1,6 +1,6 @@
 -- Bytes ask for one thing at most.
 use Rattle.std.proofs.Common.{◌≡◌, ℕ, sym, ap, subst, ◌∙◌, inl, inr}
-use Rattle.std.specs.Prelude.{Result, Ok, Err}
+use Rattle.std.specs.Prelude.{Option, Some, None, IsSomeAnd, Result, Ok, Err}
 use Rattle.wz_module.specs.Module.{Module}
 use Rattle.wz_decode.specs.declared.fault.DecodeFault.{DecodeFault}
 use Rattle.wz_decode.specs.Laws.{OneModule, CauseIsOne, SpelledHasNone}
@@ -12,8 +12,9 @@ use Rattle.wz_words.specs.Settings.{Settings}
 use Rattle.wz_exports.specs.Kept.{KeptExports}
 use Rattle.wz_exports.specs.declared.fault.ExportFault.{ExportFault}
 use Rattle.wz_init.specs.Ready.{Ready, Reached, StoppedIn, UnfitElement, UnfitData, NeverMade, ready}
-use Rattle.wz_top.specs.Verdict.{Verdict, Refuses, order_of, RunComes, RunAsks, ExportsAsk, ProfileAsks, ModuleAsks, IsVerdict, OneVerdict}
-use Rattle.wz_top.specs.declared.outcome.Outcome.TheVariants.{Decode, Valid, Profile, Exports}
+use Rattle.wz_init.specs.declared.faults.InitFault.{InitFault}
+use Rattle.wz_top.specs.Verdict.{Verdict, Refuses, order_of, stop_fault, RunComes, RunAsks, ExportsAsk, ProfileAsks, ModuleAsks, IsVerdict, OneVerdict}
+use Rattle.wz_top.specs.declared.outcome.Outcome.TheVariants.{Decode, Valid, Profile, Exports, Init}
 use Rattle.wz_top.proofs.OutsideLaws.{one_outside}
 
 abbrev asked_ok : KeptExports → Result KeptExports ExportFault
@@ -22,9 +23,13 @@ asked_ok k = Ok k
 abbrev asked_err : ExportFault → Result KeptExports ExportFault
 asked_err fault = Err fault
 
+one_fault : (o : Option InitFault) (v w : Verdict) → IsSomeAnd o (λ fault. v ≡ Refuses (Init fault)) → IsSomeAnd o (λ fault. w ≡ Refuses (Init fault)) → v ≡ w
+one_fault None v w p q = absurd p
+one_fault (Some fault) v w p q = p ∙ sym q
+
 one_end : (m : Module) (k : KeptExports) (r : Ready) (v w : Verdict) → RunComes m k r v → RunComes m k r w → v ≡ w
 one_end m k (Reached s ticks) v w p q = p ∙ sym q
-one_end m k (StoppedIn phase stop) v w p q = p ∙ sym q
+one_end m k (StoppedIn phase stop) v w p q = one_fault (stop_fault phase stop) v w p q
 one_end m k (UnfitElement index) v w p q = p ∙ sym q
 one_end m k (UnfitData index) v w p q = p ∙ sym q
 one_end m k NeverMade v w p q = absurd p

@@ -18,20 +18,21 @@ use Rattle.wz_machine.specs.Exports.{ExternalValue, ExternalFunction, ExternalTa
 use Rattle.wz_machine.specs.Moves.{Move}
 use Rattle.wz_machine.specs.Sessions.{observe}
 use Rattle.wz_machine.specs.TypedSteps.{NoneStuck}
-use Rattle.wz_init.specs.declared.faults.InitFault.TheVariants as init
+use Rattle.wz_init.specs.declared.order.Phase.{Phase}
+use Rattle.wz_init.specs.Run.{NoRuleFits}
 use Rattle.wz_init.specs.Instances.{Instance}
 use Rattle.wz_init.specs.Instantiation.{fresh}
-use Rattle.wz_init.specs.Ready.{Reached, ready}
+use Rattle.wz_init.specs.Ready.{Reached, StoppedIn, ready}
 use Rattle.wz_exports.specs.Kept.{KeptExports, kept}
 use Rattle.wz_rewrite.specs.Output.{rewritten, rewritten_module}
 use Rattle.wz_rewrite.specs.ValidOutput.{IsValidWith}
 use Rattle.wz_top.specs.Devices.{IsInputFrom, HasWritten}
 use Rattle.wz_top.specs.Words.{output_name}
-use Rattle.wz_top.specs.Verdict.{Refuses, Gives, IsVerdict, IsAccepted, order_of}
+use Rattle.wz_top.specs.Verdict.{Gives, IsVerdict, IsAccepted, order_of}
 use Rattle.wz_top.specs.FreshOutput.{StartsAs}
 use Rattle.wz_top.specs.declared.outcome.Report.{Report}
 use Rattle.wz_top.specs.declared.outcome.Outcome.{Outcome}
-use Rattle.wz_top.specs.declared.outcome.Outcome.TheVariants.{Done, Init}
+use Rattle.wz_top.specs.declared.outcome.Outcome.TheVariants.{Done}
 
 -- ---- sections 4.2.12 and 4.5.4 of the WebAssembly Core Specification 2.0: what an instance gives out
 
@@ -107,6 +108,8 @@ abbrev pub OutputIsPreInitialised : Type 0
 OutputIsPreInitialised = (s : Settings) (input : List ℕ) (report : Report) (output : List ℕ) → GiveNames s.renames → length input ≤ input_limit
     → IsVerdict s input (Gives report output) → PreInitialised s input output
 
--- no bytes ask for the answer that a run was stuck
-abbrev pub NoneAsksStuck : Type 0
-NoneAsksStuck = (s : Settings) (input : List ℕ) → IsVerdict s input (Refuses (Init init.Stuck)) → ⊥
+-- No run is stuck: whatever stops the run of a module that is accepted, with the exports that these settings keep, it isn't for want
+-- of a rule.
+abbrev pub NoRunIsStuck : Settings → Type 0
+NoRunIsStuck s = (input : List ℕ) (m : Module) (k : KeptExports) (phase : Phase) → IsAccepted input m → kept m s ≡ Ok k
+    → ready m (order_of s k) ≢ StoppedIn phase NoRuleFits

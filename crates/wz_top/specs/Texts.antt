@@ -156,7 +156,6 @@ init_words (init.FloatUsed op) = float_words op
 init_words init.TableChanged = codes "the initialisation changes a table"
 init_words init.TooManyFrames = codes "more than 20000 frames"
 init_words init.TooManyFrameLocals = codes "more than 4000000 locals in all frames"
-init_words init.Stuck = codes "the machine is stuck"
 init_words init.NoMemory = no_memory_words
 
 abbrev pub outcome_words : Outcome → List ℕ

@@ -1,5 +1,5 @@
 -- What the bytes of an input ask for, step by step in the order of the run. Each step refuses, or leaves it to the next one.
-use Rattle.std.specs.Prelude.{◌≡◌, ◌⊎◌, ℕ, List, length, Ok, Err, ⊤}
+use Rattle.std.specs.Prelude.{◌≡◌, ◌⊎◌, ℕ, List, length, Option, Some, None, IsSomeAnd, Ok, Err, ⊤}
 use Rattle.wz_module.specs.Module.{Module}
 use Rattle.wz_decode.specs.Spelling.{Spells}
 use Rattle.wz_decode.specs.Causes.{IsCause}
@@ -37,16 +37,16 @@ pub data Verdict : Type 0 where
 abbrev pub order_of : Settings → KeptExports → RunOrder
 order_of s k = record { reactor = k.reactor; function = k.function; fuel = s.fuel }
 
--- the answer for each reason why a run stops
-abbrev pub stop_fault : Phase → Stop → InitFault
-stop_fault phase (Trapped kind) = init.Trap phase kind
-stop_fault phase FuelIsSpent = init.OutOfFuel
-stop_fault phase TableWouldChange = init.TableChanged
-stop_fault phase FramesAreTooMany = init.TooManyFrames
-stop_fault phase LocalsAreTooMany = init.TooManyFrameLocals
-stop_fault phase NoRuleFits = init.Stuck
-stop_fault phase (FloatIsAsked op) = init.FloatUsed op
-stop_fault phase (ImportIsCalled import) = init.ImportCalled import
+-- the answer for each reason why a run stops; no run of a valid module stops for want of a rule
+abbrev pub stop_fault : Phase → Stop → Option InitFault
+stop_fault phase (Trapped kind) = Some (init.Trap phase kind)
+stop_fault phase FuelIsSpent = Some init.OutOfFuel
+stop_fault phase TableWouldChange = Some init.TableChanged
+stop_fault phase FramesAreTooMany = Some init.TooManyFrames
+stop_fault phase LocalsAreTooMany = Some init.TooManyFrameLocals
+stop_fault phase NoRuleFits = None
+stop_fault phase (FloatIsAsked op) = Some (init.FloatUsed op)
+stop_fault phase (ImportIsCalled import) = Some (init.ImportCalled import)
 
 -- the ticks of the run, the pages of all memories that it reached, the chosen data segments and the bytes written
 abbrev pub report_of : State → ℕ → List ℕ → Report
@@ -63,7 +63,7 @@ reached_verdict m k s ticks = Gives (report_of s ticks (rewritten m s k)) (rewri
 
 abbrev pub RunComes : Module → KeptExports → Ready → Verdict → Type 0
 RunComes m k (Reached s ticks) verdict = verdict ≡ reached_verdict m k s ticks
-RunComes m k (StoppedIn phase stop) verdict = verdict ≡ Refuses (Init (stop_fault phase stop))
+RunComes m k (StoppedIn phase stop) verdict = IsSomeAnd (stop_fault phase stop) (λ fault. verdict ≡ Refuses (Init fault))
 RunComes m k (UnfitElement index) verdict = verdict ≡ Refuses (Init (init.ElementOutOfBounds index))
 RunComes m k (UnfitData index) verdict = verdict ≡ Refuses (Init (init.DataOutOfBounds index))
 RunComes m k NeverMade verdict = ⊥

@@ -3,8 +3,9 @@
 ghost use Rattle.wz_top.specs.Samples.{SamplesAreShort};
 ghost use Rattle.wz_top.specs.FreshOutput.{OutputStartsAsReached};
 ghost use Rattle.wz_top.specs.PreInitialised.{RenamesAreShort, OutputIsWritten};
-ghost use Rattle.wz_top.specs.PreInitialised.{OutputIsPreInitialised, NoneAsksStuck};
+ghost use Rattle.wz_top.specs.PreInitialised.{OutputIsPreInitialised, NoRunIsStuck};
 ghost use Rattle.wz_top.specs.Verdict.{OneVerdict};
+ghost use Rattle.wz_words.specs.Settings.{Settings};
 
 use wz_decode::laws as decode_laws;
 use wz_valid::laws as valid_laws;
@@ -71,9 +72,9 @@ pub fn output_is_pre_initialised()
     wz_machine::laws::never_stuck();
 }
 
-/// No bytes ask for the answer that a run was stuck.
-pub fn none_asks_stuck()
-    ensures { NoneAsksStuck }
+/// No run of a module that is accepted is stuck, whatever the settings.
+pub fn no_run_is_stuck()
+    ensures { (s : Settings) → NoRunIsStuck s }
 {
     // For the proof: a step of a valid module has a rule.
     wz_init::laws::states_are_typed();

@@ -400,7 +400,6 @@ fn put_init<E: Sink>(fault: InitFault, messages: &mut E) -> Result<(), Failed>
         InitFault::TooManyFrameLocals => {
             put_words("more than 4000000 locals in all frames", messages)
         }
-        InitFault::Stuck => put_words("the machine is stuck", messages),
         InitFault::NoMemory => put_words(NO_MEMORY, messages),
     }
 }

@@ -1,6 +1,6 @@
 //! The top call.
 
-ghost use Rattle.std.specs.Prelude.{◌≡◌, ◌≢◌, ◌+◌, ◌≤◌, ◌⊎◌, Ok, All, AllPairs, IsUtf8};
+ghost use Rattle.std.specs.Prelude.{◌≡◌, ◌≢◌, ◌+◌, ◌≤◌, ◌⊎◌, Ok, IfOk, All, AllPairs, IsUtf8};
 ghost use Rattle.wz_io.specs.World.{World, Said};
 ghost use Rattle.wz_io.specs.Reading.{input_limit};
 ghost use Rattle.wz_words.specs.Settings.{settings_of};
@@ -9,16 +9,14 @@ ghost use Rattle.wz_top.specs.Asked.{Asks, Asked, Ran, OnDone, OnRefusal, OnInpu
 ghost use Rattle.wz_top.specs.Asked.{OnOutputFault, OnUnfinished, Stays, IsTold, IsAnswer};
 ghost use Rattle.wz_top.specs.Asked.{IsComplete};
 ghost use Rattle.wz_top.specs.Devices.{IsSmallSample};
-ghost use Rattle.wz_top.specs.PreInitialised.{OnPreInitialised};
+ghost use Rattle.wz_top.specs.PreInitialised.{OnPreInitialised, NoRunIsStuck};
 ghost use Rattle.wz_top.specs.Saying.{SaysAll, SaysFirst};
 ghost use Rattle.wz_top.specs.Texts.{text};
-ghost use Rattle.wz_init.specs.declared.faults.InitFault.TheVariants.{Stuck};
-ghost use Rattle.wz_top.specs.declared.outcome.Outcome.TheVariants.{Init};
 ghost use Rattle.wz_top.specs.Words.{is_reported, wants_report, is_sample};
 
 use crate::Outcome;
 use crate::fetch::obtain;
-use crate::laws::{bytes_ask_once, none_asks_stuck, output_is_pre_initialised, renames_are_short};
+use crate::laws::{bytes_ask_once, no_run_is_stuck, output_is_pre_initialised, renames_are_short};
 use crate::making::make;
 use crate::refusals::usage_outcome;
 use crate::texts::print_outcome;
@@ -54,8 +52,8 @@ pub fn wizer<F: Files, E: Sink>(
     ensures answer { IsTold (settings words.now) (F.world files.old).told →
         (asked : Asked) → Asks words.now (F.world files.old).told asked → IsAnswer asked result }
 
-    // No run is stuck.
-    ensures never_stuck { result ≢ Init Stuck }
+    // No run is stuck, whatever the input.
+    ensures never_stuck { IfOk (settings words.now) (λ s. NoRunIsStuck s) }
 
     // A fault comes only where that device failed, and for the output only where one is asked for.
     ensures input_fault { OnInputFault result (settings words.now)
@@ -79,8 +77,8 @@ pub fn wizer<F: Files, E: Sink>(
         SaysAll line (E.said messages.old) (E.said messages.new)
         ⊎ SaysFirst line (E.said messages.old) (E.said messages.new) }
 {
-    // For the proof: nothing asks for a run that is stuck.
-    none_asks_stuck();
+    // For the proof: no run is stuck.
+    no_run_is_stuck();
     let (outcome, report) = run(alloc, words, files);
     say(&outcome, report, messages);
     outcome

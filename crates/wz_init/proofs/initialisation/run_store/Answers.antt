@@ -3,7 +3,7 @@ use Rattle.wz_module.specs.Meaning.{module_of}
 use Rattle.wz_machine.specs.State.{State}
 use Rattle.wz_machine.specs.Machines.{machine_state, machine_stack}
 use Rattle.wz_init.specs.Ready.{Ready, Reached, IsFaultOf}
-use Rattle.wz_init.proofs.BeginLemmas.{machine_is, begun, begun_sound, begun_ended, begun_small, begun_takes, begun_ready}
+use Rattle.wz_init.proofs.BeginLemmas.{machine_is, begun, begun_sound, begun_typed, begun_ended, begun_small, begun_takes, begun_ready}
 use Rattle.wz_init.proofs.initialisation.run_store.Goals as goal
 
 pub run_phases-requires-clause-ended : goal.run_phases-requires-clause-ended
@@ -12,7 +12,8 @@ run_phases-requires-clause-ended g c =
     let s = machine_state c.new-machine.result in
     let b = begun c.states_by_bodies.ensures c.reached_states.ensures.fresh m c.new-machine.result c.bodies.result.now c.args.store c.requires.valid c.requires.profile
     c.new-machine.ensures.bodies c.bodies.ensures c.new-machine.ensures.store c.requires.fresh in
-    begun_ended m s (machine_stack c.new-machine.result) b c.new-machine.ensures.stack
+    begun_ended m s (machine_stack c.new-machine.result) (begun_typed c.states_are_typed.ensures.fresh m s c.requires.valid c.requires.profile c.requires.datas b) b
+    c.new-machine.ensures.stack
 
 pub run_phases-requires-clause-sound : goal.run_phases-requires-clause-sound
 run_phases-requires-clause-sound g c =
@@ -36,7 +37,8 @@ run_phases-requires-clause-takes g c =
     let s = machine_state c.new-machine.result in
     let b = begun c.states_by_bodies.ensures c.reached_states.ensures.fresh m c.new-machine.result c.bodies.result.now c.args.store c.requires.valid c.requires.profile
     c.new-machine.ensures.bodies c.bodies.ensures c.new-machine.ensures.store c.requires.fresh in
-    begun_takes c.valid_items.ensures.start m s c.start.result c.args.order.now c.requires.valid c.requires.runnable b c.start.ensures
+    begun_takes c.valid_items.ensures.start m s c.start.result c.args.order.now c.requires.valid c.requires.runnable
+    (begun_typed c.states_are_typed.ensures.fresh m s c.requires.valid c.requires.profile c.requires.datas b) b c.start.ensures
 
 pub returns-in-Ok-clause-reached : goal.returns-in-Ok-clause-reached
 returns-in-Ok-clause-reached g c =

@@ -21,7 +21,7 @@ returns-in-Ok-clause-went g c =
     let some : 0 < made = entry_some made s mid term (top_term stack) ticked in
     let all : made ≡ fuel - (fuel - made) = omega (arith, few) in (
       omega (arith, some, few),
-      entered_running made s mid term stack ticked c.requires.running.within c.in_ok-done.ensures.made.alone c.in-Ok.ensures.within c.requires.running.own c.requires.running.holds,
+      entered_running made s mid term stack ticked c.requires.running.within c.in_ok-done.ensures.typed c.in_ok-done.ensures.made.alone c.in-Ok.ensures.within c.requires.running.own c.requires.running.holds,
       λ ticks.
           entered_run made s mid term stack ticked c.requires.running.within fuel (fuel - made) whole c.in-Ok.ensures.within ticks
           ∙ ap (λ (n : ℕ). run_from (fuel - made) (ticks + n) mid (top_term stack)) all,
@@ -55,7 +55,7 @@ returns-then-left-eq0-clause-went g c =
     let ticked : Reaches made s term mid (top_term stack) =
     subst (λ (b : Bool). HasTicked b made s term mid (top_term stack)) c.if-done.false c.in_ok-done.ensures.made.ticks in (
       c.requires.some,
-      reached_running made s mid term stack ticked c.requires.running.within c.in_ok-done.ensures.made.alone c.requires.running.own c.requires.running.holds,
+      reached_running made s mid term stack ticked c.requires.running.within c.in_ok-done.ensures.typed c.in_ok-done.ensures.made.alone c.requires.running.own c.requires.running.holds,
       λ ticks. round_spent fuel made ticks s mid term (top_term stack) c.if-left-eq0.true few (reached_run made s mid term stack ticked c.requires.running.within fuel (fuel - made) whole ticks),
     )
 
@@ -71,7 +71,7 @@ turn-requires g c =
     let whole : fuel ≡ made + (fuel - made) = omega (arith, few) in
     let ticked : Reaches made s term mid (top_term stack) =
     subst (λ (b : Bool). HasTicked b made s term mid (top_term stack)) c.if-done.false c.in_ok-done.ensures.made.ticks in
-    reached_running made s mid term stack ticked c.requires.running.within c.in_ok-done.ensures.made.alone c.requires.running.own c.requires.running.holds
+    reached_running made s mid term stack ticked c.requires.running.within c.in_ok-done.ensures.typed c.in_ok-done.ensures.made.alone c.requires.running.own c.requires.running.holds
 
 pub returns-in-Ok-true-clause-went : goal.returns-in-Ok-true-clause-went
 returns-in-Ok-true-clause-went g c =

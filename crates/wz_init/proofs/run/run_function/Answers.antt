@@ -7,7 +7,7 @@ use Rattle.wz_init.specs.Run.{RunEnd, Returned, run_from}
 use Rattle.wz_init.specs.Reached.{HoldsOwn}
 use Rattle.wz_init.specs.Turns.{top_term, IsEntered, StopsBy}
 use Rattle.wz_init.proofs.LeftLemmas.{entered_own}
-use Rattle.wz_init.proofs.RunLemmas.{run_own, run_import, run_missing}
+use Rattle.wz_init.proofs.RunLemmas.{run_own, run_import}
 use Rattle.wz_init.proofs.run.run_function.Goals as goal
 
 pub run_term-requires : goal.run_term-requires
@@ -18,6 +18,7 @@ run_term-requires g c =
     let entry_is : IsEntered s c.args.function entry.Own after stack =
     subst (λ (e : Entered). IsEntered s c.args.function e after stack) c.in-Own.is c.in_ok-enter.ensures.entered in
     record {
+      typed = c.in_ok-enter.ensures.typed;
       alone = entry_is.2;
       within = c.requires.small c.args.function (top_term stack) entry_is.0;
       own = subst (λ (x : State). HoldsOwn x) (sym entry_is.1) c.requires.ended.own;
@@ -58,12 +59,3 @@ returns-in-Import-clause-stopped g c =
     let entry_is : IsEntered s c.args.function (entry.Import c.in-Import.import) after stack =
     subst (λ (e : Entered). IsEntered s c.args.function e after stack) c.in-Import.is c.in_ok-enter.ensures.entered in
     λ ticks. run_import s c.args.function c.args.fuel ticks c.in-Import.import entry_is.0 entry_is.1 entry_is.2
-
-pub returns-in-Missing-clause-stopped : goal.returns-in-Missing-clause-stopped
-returns-in-Missing-clause-stopped g c =
-    let s = g.S.Steps.state c.args.machine.now in
-    let after = g.S.Steps.state c.enter.new.self in
-    let stack = g.S.Steps.stack c.enter.new.self in
-    let entry_is : IsEntered s c.args.function entry.Missing after stack =
-    subst (λ (e : Entered). IsEntered s c.args.function e after stack) c.in-Missing.is c.in_ok-enter.ensures.entered in
-    λ ticks. run_missing s c.args.function c.args.fuel ticks entry_is

@@ -5,7 +5,7 @@ use Rattle.wz_init.specs.declared.turn.Turned.TheVariants as turned
 use Rattle.wz_machine.specs.Advance.{head_changes_table}
 use Rattle.wz_init.specs.Turns.{top_term, IsTicked}
 use Rattle.wz_init.proofs.RunLemmas.{run_refused}
-use Rattle.wz_init.proofs.TurnLemmas.{went_run, went_beyond, went_running, ended_run, asked_here, grown_run, grown_running, trapped_run, float_run, table_run, import_run, foreign_run, stuck_run}
+use Rattle.wz_init.proofs.TurnLemmas.{went_run, went_beyond, went_running, ended_run, asked_here, grown_run, grown_running, trapped_run, float_run, table_run, import_run, foreign_never}
 use Rattle.wz_init.proofs.run.turn.Goals as goal
 
 pub returns-then-would_change_table-clause-stopped : goal.returns-then-would_change_table-clause-stopped
@@ -22,7 +22,7 @@ returns-in-Ok-clause-running g c =
     let stack = g.S.Steps.stack c.tick.new.self in
     let spares : head_changes_table (next term) ≡ false = cc (c.would_change_table.ensures, c.if-would_change_table.false) in
     let ticked : IsTicked s term (turned.Went) after stack = subst (λ (t : Turned). IsTicked s term t after stack) c.in-Went.is c.in_ok-tick.ensures.ticked in
-    went_running s after stack term spares ticked c.in-Ok.ensures.within c.requires.own c.requires.holds
+    went_running s after stack term spares ticked c.in_ok-tick.ensures.typed c.in-Ok.ensures.within c.requires.own c.requires.holds
 
 pub returns-in-Ok-clause-turned : goal.returns-in-Ok-clause-turned
 returns-in-Ok-clause-turned g c =
@@ -54,8 +54,8 @@ returns-in-Ended-clause-turned g c =
     let ticked : IsTicked s term (turned.Ended) after stack = subst (λ (t : Turned). IsTicked s term t after stack) c.in-Ended.is c.in_ok-tick.ensures.ticked in
     λ fuel ticks. ended_run s after stack term spares ticked fuel ticks
 
-pub grow-requires : goal.grow-requires
-grow-requires g c =
+pub grow-requires-clause-asked : goal.grow-requires-clause-asked
+grow-requires-clause-asked g c =
     let s = g.S.Steps.state c.args.machine.now in
     let term = top_term (g.S.Steps.stack c.args.machine.now) in
     let after = g.S.Steps.state c.tick.new.self in
@@ -73,7 +73,7 @@ returns-in_ok-grow-in-Memory-clause-running g c =
     let spares : head_changes_table (next term) ≡ false = cc (c.would_change_table.ensures, c.if-would_change_table.false) in
     let ticked : IsTicked s term (turned.Memory c.in-Memory.index c.in-Memory.by) after stack = subst (λ (t : Turned). IsTicked s term t after stack) c.in-Memory.is c.in_ok-tick.ensures.ticked in
     grown_running s after stack term spares c.in-Memory.index c.in-Memory.by (g.S.Steps.state c.grow.new.machine) (g.S.Steps.stack c.grow.new.machine) ticked
-    c.in_ok-grow-in-Memory.ensures.state c.in_ok-grow-in-Memory.ensures.stack c.requires.within c.requires.own c.requires.holds
+    c.in_ok-grow-in-Memory.ensures.state c.in_ok-grow-in-Memory.ensures.stack c.in_ok-grow-in-Memory.ensures.typed c.requires.within c.requires.own c.requires.holds
 
 pub returns-in_ok-grow-in-Memory-clause-turned : goal.returns-in_ok-grow-in-Memory-clause-turned
 returns-in_ok-grow-in-Memory-clause-turned g c =
@@ -117,16 +117,6 @@ returns-in-Table-clause-stopped g c =
     let ticked : IsTicked s term (turned.Table) after stack = subst (λ (t : Turned). IsTicked s term t after stack) c.in-Table.is c.in_ok-tick.ensures.ticked in
     λ fuel ticks. table_run s after stack term spares ticked fuel ticks
 
-pub returns-in-Stuck-clause-stopped : goal.returns-in-Stuck-clause-stopped
-returns-in-Stuck-clause-stopped g c =
-    let s = g.S.Steps.state c.args.machine.now in
-    let term = top_term (g.S.Steps.stack c.args.machine.now) in
-    let after = g.S.Steps.state c.tick.new.self in
-    let stack = g.S.Steps.stack c.tick.new.self in
-    let spares : head_changes_table (next term) ≡ false = cc (c.would_change_table.ensures, c.if-would_change_table.false) in
-    let ticked : IsTicked s term (turned.Stuck) after stack = subst (λ (t : Turned). IsTicked s term t after stack) c.in-Stuck.is c.in_ok-tick.ensures.ticked in
-    λ fuel ticks. stuck_run s after stack term spares ticked fuel ticks
-
 pub returns-in-Import-clause-stopped : goal.returns-in-Import-clause-stopped
 returns-in-Import-clause-stopped g c =
     let s = g.S.Steps.state c.args.machine.now in
@@ -137,12 +127,12 @@ returns-in-Import-clause-stopped g c =
     let ticked : IsTicked s term (turned.Import c.in-Import.import) after stack = subst (λ (t : Turned). IsTicked s term t after stack) c.in-Import.is c.in_ok-tick.ensures.ticked in
     λ fuel ticks. import_run s after stack term spares c.in-Import.import ticked fuel ticks
 
-pub returns-in-Foreign-clause-stopped : goal.returns-in-Foreign-clause-stopped
-returns-in-Foreign-clause-stopped g c =
+pub unreachable-requires : goal.unreachable-requires
+unreachable-requires g c =
     let s = g.S.Steps.state c.args.machine.now in
     let term = top_term (g.S.Steps.stack c.args.machine.now) in
     let after = g.S.Steps.state c.tick.new.self in
     let stack = g.S.Steps.stack c.tick.new.self in
     let spares : head_changes_table (next term) ≡ false = cc (c.would_change_table.ensures, c.if-would_change_table.false) in
     let ticked : IsTicked s term (turned.Foreign c.in-Foreign.field-0) after stack = subst (λ (t : Turned). IsTicked s term t after stack) c.in-Foreign.is c.in_ok-tick.ensures.ticked in
-    λ fuel ticks. foreign_run s after stack term spares c.in-Foreign.field-0 ticked fuel ticks
+    foreign_never s after stack term spares c.in-Foreign.field-0 ticked c.requires.own c.requires.holds

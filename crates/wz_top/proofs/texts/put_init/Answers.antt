@@ -75,16 +75,6 @@ returns-in-TooManyFrameLocals-clause-some g c =
     subst (λ (f : InitFault). OnErr c.put_words-in-TooManyFrameLocals.result (SaysFirst (init_words f) (g.E.Sink.said c.args.messages.now) (g.E.Sink.said c.put_words-in-TooManyFrameLocals.new.messages)))
     (sym c.in-TooManyFrameLocals.is) c.put_words-in-TooManyFrameLocals.ensures.some
 
-pub returns-in-Stuck-clause-all : goal.returns-in-Stuck-clause-all
-returns-in-Stuck-clause-all g c =
-    subst (λ (f : InitFault). OnOk c.put_words-in-Stuck.result (SaysAll (init_words f) (g.E.Sink.said c.args.messages.now) (g.E.Sink.said c.put_words-in-Stuck.new.messages)))
-    (sym c.in-Stuck.is) c.put_words-in-Stuck.ensures.all
-
-pub returns-in-Stuck-clause-some : goal.returns-in-Stuck-clause-some
-returns-in-Stuck-clause-some g c =
-    subst (λ (f : InitFault). OnErr c.put_words-in-Stuck.result (SaysFirst (init_words f) (g.E.Sink.said c.args.messages.now) (g.E.Sink.said c.put_words-in-Stuck.new.messages)))
-    (sym c.in-Stuck.is) c.put_words-in-Stuck.ensures.some
-
 pub returns-in-NoMemory-clause-all : goal.returns-in-NoMemory-clause-all
 returns-in-NoMemory-clause-all g c =
     subst (λ (f : InitFault). OnOk c.put_words-in-NoMemory.result (SaysAll (init_words f) (g.E.Sink.said c.args.messages.now) (g.E.Sink.said c.put_words-in-NoMemory.new.messages)))
