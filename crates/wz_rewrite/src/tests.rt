@@ -1,10 +1,13 @@
-//! Outputs, byte by byte, of small modules and of states of them that were made by hand.
+//! Outputs, byte by byte, of small modules and of states of them that were made by hand; and long
+//! pieces on their way into a file.
 
-ghost use Rattle.std.specs.Prelude.{◌≡◌, ◌≢◌, ◌≤◌, length, AllPairs, IfOk};
+ghost use Rattle.std.specs.Prelude.{◌≡◌, ◌≢◌, ◌≤◌, [], length, AllPairs, IfOk};
 ghost use Rattle.std.specs.Bool.{OnTrue};
 ghost use Rattle.wz_words.specs.Settings.{settings_of};
 ghost use Rattle.wz_store.specs.State.{pages_together};
+ghost use Rattle.wz_rewrite.specs.Pieces.{piece_ranges};
 
+use crate::pieces::Pieces;
 use crate::sources::lacks;
 use crate::{Output, Piece, laws, prepare};
 use std::alloc::Global;
@@ -12,6 +15,7 @@ use std::process::Abort;
 use std::test::Fail;
 use wz_decode::decode;
 use wz_exports::{Kept, keep};
+use wz_io::{CallKind, FileName, Files, MemFiles};
 use wz_linear::{Linear, PlainMemory};
 use wz_module::Module;
 use wz_snapshot::{Recorded, snapshot};
@@ -405,6 +409,96 @@ fn gives(rt: &impl Abort, alloc: Global, row: Row) -> Result<(), Fail> {
 fn outputs(rt: HostRuntime) -> Result<(), Fail> {
     for row in ROWS {
         gives(&rt, rt.alloc(), row)?;
+    }
+    Ok(())
+}
+
+// The row, how long the section between seven other bytes is, how many bytes a write takes at most,
+// which write fails (none: 0), and how many bytes the output holds then.
+type LongRow = (&'static str, usize, usize, u32, usize);
+
+const LONG_ROWS: [LongRow; 7] = [
+    ("short", 2, 1_000_000, 0, 9),
+    ("a byte less than the buffer", 65_528, 1_000_000, 0, 65_535),
+    ("just the buffer", 65_529, 1_000_000, 0, 65_536),
+    ("a byte more than the buffer", 65_530, 1_000_000, 0, 65_537),
+    ("three buffers, by short writes", 200_000, 7_000, 0, 200_007),
+    ("the first write fails", 200_000, 7_000, 1, 0),
+    (
+        "the write behind a buffer fails",
+        200_000,
+        7_000,
+        11,
+        65_536,
+    ),
+];
+
+/// Bytes that differ from their neighbours.
+fn counted(alloc: Global, len: usize) -> Result<Vec<u8>, Fail> {
+    let mut bytes = Vec::new(alloc);
+    for at in 0..len {
+        bytes.push((at % 251) as u8)?;
+    }
+    Ok(bytes)
+}
+
+/// An output of a long piece of the input between two that were made.
+fn long_output(alloc: Global, long: &[u8]) -> Result<Output<'_>, Fail>
+    ensures { IfOk result (λ output. piece_ranges output ≡ []) }
+{
+    let mut pieces = Pieces::new(alloc);
+    pieces.add(Piece::Made(Vec::from_slice(alloc, b"\0asm")?))?;
+    pieces.add(Piece::Kept(long))?;
+    pieces.add(Piece::Made(Vec::from_slice(alloc, b"end")?))?;
+    Ok(Output::of(alloc, pieces)?)
+}
+
+/// Writes pieces of no memory into a file, and gives how many bytes these are said to be.
+fn written(
+    alloc: Global,
+    output: &mut Output<'_>,
+    files: &mut MemFiles,
+) -> Result<Option<u64>, Fail>
+    requires { piece_ranges output.old ≡ [] }
+{
+    let types: &[FuncType] = &[];
+    let store: Store<'_, PlainMemory> = Store::new(alloc, types);
+    let reached = Reached { store, ticks: 0 };
+    match files.create(FileName::Path("out")) {
+        Ok(()) => Ok(output.write_to(&reached, files).ok()),
+        Err(_) => Err(Fail::from("the output is made")),
+    }
+}
+
+fn writes(rt: &impl Abort, alloc: Global, row: LongRow) -> Result<(), Fail> {
+    let (name, len, chunk, failing, there) = row;
+    let long = counted(alloc, len)?;
+    let mut output = long_output(alloc, &long)?;
+    let mut files = MemFiles::new(alloc, Vec::new(alloc), chunk.max(1));
+    if failing > 0 {
+        files.fail(CallKind::Write, failing)?;
+    }
+    let said = written(alloc, &mut output, &mut files)?;
+    let wanted = whole_of(alloc, &long)?;
+    assert!(rt;
+        files.file("out") == wanted.as_slice().get(..there),
+        "{name}"
+    );
+    assert_eq!(rt; said, (failing == 0).then_some(there as u64), "{name}");
+    Ok(())
+}
+
+fn whole_of(alloc: Global, long: &[u8]) -> Result<Vec<u8>, Fail> {
+    let mut bytes = Vec::from_slice(alloc, b"\0asm")?;
+    bytes.extend_from_slice(long)?;
+    bytes.extend_from_slice(b"end")?;
+    Ok(bytes)
+}
+
+#[test]
+fn long_pieces(rt: HostRuntime) -> Result<(), Fail> {
+    for row in LONG_ROWS {
+        writes(&rt, rt.alloc(), row)?;
     }
     Ok(())
 }
