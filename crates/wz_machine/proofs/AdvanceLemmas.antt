@@ -1,11 +1,11 @@
 -- Many steps, put together.
-use Rattle.std.proofs.Common.{◌≡◌, ◌≤◌, ◌<◌, ◌+◌, ◌-◌, ◌⊎◌, ℕ, zero, suc, List, [], ◌∷◌, Option, Result, Ok, Err, OnErr, Bool, true, false, IsTrue, IsFalse, inl, inr, length, take, get_or, set, refl, ap, sym, subst, ◌∙◌, arith}
+use Rattle.std.proofs.Common.{◌≡◌, ◌≤◌, ◌<◌, ◌+◌, ◌-◌, ◌⊎◌, ℕ, zero, suc, List, [], ◌∷◌, Option, Some, MatchBool, Result, Ok, Err, OnErr, Bool, true, false, IsTrue, IsFalse, inl, inr, length, take, slice_get, get_or, set, refl, ap, sym, subst, ◌∙◌, arith}
 use Rattle.wz_code.specs.declared.instr.Instr.{Instr}
-use Rattle.wz_code.specs.declared.instr.Instr.TheVariants.{Block, Loop, If}
+use Rattle.wz_code.specs.declared.instr.Instr.TheVariants.{Block, Loop, If, Br, BrIf}
 use Rattle.wz_code.specs.BodyParts.{BodyParts}
 use Rattle.wz_code.specs.Trees.{Code, leaf_in, code_in, headed_in}
 use Rattle.wz_store.specs.Made.{StoreState}
-use Rattle.wz_store.specs.Changes.{Change, applied}
+use Rattle.wz_store.specs.Changes.{Change, Nothing, applied}
 use Rattle.wz_machine.specs.State.{State, state_of}
 use Rattle.wz_machine.specs.Terms.{Term, Standing}
 use Rattle.wz_machine.specs.Standings.{StandingParts, standing_of, stack_of}
@@ -13,11 +13,18 @@ use Rattle.wz_machine.specs.Outcomes.{Answer, Next}
 use Rattle.wz_machine.specs.Step.{step}
 use Rattle.wz_machine.specs.Next.{Head, head_of, next}
 use Rattle.wz_machine.specs.Frames.{frame_count, local_count}
-use Rattle.wz_machine.specs.Stacks.{StackParts, stacks_term}
+use Rattle.wz_machine.specs.Stacks.{LoopEntry, Entry, StackParts, stacks_term, IsStacked}
 use Rattle.wz_machine.specs.Straight.{changes_table}
 use Rattle.wz_machine.specs.Strides.{Gone}
-use Rattle.wz_machine.specs.Advance.{head_changes_table, StandingAdvanced, StackAdvanced, IsAdvancePart, StandingAdvancedPart, StackAdvancedPart, StepsOn, EntersNone, Enters, Reaches, ReachesEntry, GoesNot, HaltsNext, IsOnward}
+use Rattle.wz_machine.specs.Turns.{HasNumber}
+use Rattle.wz_machine.specs.Landing.{IsAgain}
+use Rattle.wz_machine.specs.Advance.{head_changes_table, StandingAdvanced, StackAdvanced, IsAdvancePart, StandingAdvancedPart, StackAdvancedPart, StepsOn, EntersNone, Enters, Reaches, ReachesEntry, GoesNot, HaltsNext, IsOnward, BranchesHere, BeginsAnew, Repeats}
 use Rattle.wz_machine.specs.declared.advance.Onward.TheVariants as onward
+use Rattle.wz_machine.proofs.BranchLemmas.{branch-again}
+use Rattle.wz_machine.proofs.KeptLemmas.{again-stacked}
+use Rattle.wz_machine.proofs.StepLemmas.{jump-lands}
+use Rattle.wz_machine.proofs.ControlLemmas.{br-reduct, br_if-reduct}
+use Rattle.wz_machine.proofs.CountLemmas.{frames_counted, locals_counted}
 use Rattle.wz_machine.proofs.ChangeLemmas.{change_reaches_state}
 use Rattle.wz_machine.proofs.StandingLemmas.{stack_top, stack_set}
 use Rattle.wz_machine.proofs.SiteLemmas.{next-head, leaf-spares}
@@ -126,3 +133,56 @@ pub stack_part : (limit : ℕ) (s after : State) (xs ys : List StandingParts) (b
     → StackAdvancedPart limit s (stack_of xs) after (stack_of ys)
 stack_part limit s after xs ys before now d n len some is set_to (made, few, advanced) =
     (made, few, stack_advanced false made made s after xs ys before now d n len some is set_to advanced)
+
+-- ---- a branch to the innermost loop
+
+pub br_here : (s : StackParts) (label : ℕ) (rest : List Instr) (have : ℕ) → s.top.rest ≡ Br label ∷ rest → label ≡ 0 → have ≡ length s.values
+    → s.top.height ≤ have → BranchesHere s have
+br_here s label rest have e none is own =
+    let first : s.top.rest ≡ Br 0 ∷ rest = e ∙ ap (λ n. Br n ∷ rest) none in
+    record {
+      own = own;
+      within = omega (arith, is);
+      reduct = λ st. br-reduct st s 0 rest have first is;
+      spares = sym (table_next s (Br 0) rest first);
+    }
+
+pub br_if_here : (s : StackParts) (label n : ℕ) (rest : List Instr) (have : ℕ) → s.top.rest ≡ BrIf label ∷ rest → label ≡ 0 → have ≡ length s.values
+    → HasNumber s n → (n ≡ 0 → ⊥) → BranchesHere s (have - 1)
+br_if_here s label n rest have e none is number ne =
+    let first : s.top.rest ≡ BrIf 0 ∷ rest = e ∙ ap (λ k. BrIf k ∷ rest) none in
+    record {
+      own = omega (arith, is, number.within);
+      within = omega (arith, is);
+      reduct = λ st. br_if-reduct st s 0 n rest have first is number ne;
+      spares = sym (table_next s (BrIf 0) rest first);
+    }
+
+pub begins_anew : (s now : StackParts) (have : ℕ) (target : Entry) (again : List Instr) → IsStacked s → target ≡ s.top → 0 < length s.outer
+    → target.arity ≡ 0 → s.top.height ≤ have → have ≤ length s.values → target.base ≤ have → target.kind ≡ LoopEntry again
+    → IsAgain s 0 target again have 0 now → BeginsAnew s have now
+begins_anew s now have target again stacked same lt arity own within base kind begun =
+    let here : slice_get (s.top ∷ s.outer) 0 ≡ Some target = ap (λ (e : Entry). Some e) (sym same) in
+    let carries : IsAgain s 0 target again have target.arity now = subst (λ n. IsAgain s 0 target again have n now) (sym arity) begun in
+    let after : IsStacked now = again-stacked s now 0 have 0 target again stacked here lt kind within (omega (arith, base)) begun in
+    let lands = branch-again s now 0 have target again here lt within (omega (arith, own, arity)) kind carries in
+    let top : now.top ≡ record s.top { rest = again } = begun.top ∙ ap (λ (e : Entry). record e { rest = again }) same in
+    record {
+      turned = λ st reduct. jump-lands st s 0 have stacked (omega arith) reduct ∙ lands;
+      none = record {
+        frames = omega (arith, frames_counted s stacked, frames_counted now after, ap (λ (e : Entry). e.frames) top);
+        locals = omega (arith, locals_counted s stacked, locals_counted now after, ap (λ (e : Entry). e.frame_locals) top);
+      };
+    }
+
+repeats_by : (s now : StackParts) (have : ℕ) → BranchesHere s have → BeginsAnew s have now → Repeats s now
+repeats_by s now have here anew = record { turned = λ st. anew.turned st (here.reduct st); spares = here.spares; none = anew.none }
+
+pub repeats_if : (done : Bool) (s now : StackParts) (have : ℕ) → BranchesHere s have → MatchBool done (BeginsAnew s have now) (now ≡ s)
+    → MatchBool done (Repeats s now) (now ≡ s)
+repeats_if true s now have here anew = repeats_by s now have here anew
+repeats_if false s now have here same = same
+
+-- it is a step of a run
+pub repeats_on : (s now : StackParts) (st : State) → Repeats s now → StepsOn st (stacks_term s) st (stacks_term now) × EntersNone (stacks_term s) (stacks_term now)
+repeats_on s now st r = (record { change = Nothing; goes = r.turned st; state = refl; spares = r.spares }, r.none)

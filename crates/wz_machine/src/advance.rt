@@ -88,6 +88,26 @@ impl<'m> Stacks<'m> {
         Ok(Onward::Went)
     }
 
+    /// The same. A branch to the innermost loop, which is met most, is made at once.
+    #[inline(always)]
+    fn onward<M: Linear>(
+        &mut self,
+        bodies: &'m [Body],
+        store: &mut Store<'m, M>,
+    ) -> Result<Onward, AllocError>
+        ensures stepped { IfOk result (λ onward. IsOnward onward
+            (state_of bodies.now store.old) (stacks_term self.old)
+            (state_of bodies.now store.new) (stacks_term self.new)) }
+        ensures refused { OnErr result (self.new ≡ self.old) }
+        ensures kept { OnErr result (store.new ≡ store.old) }
+    {
+        if self.repeats() {
+            return Ok(Onward::Went);
+        }
+        let onward = self.step_on(bodies, store)?;
+        Ok(onward)
+    }
+
     /// Makes at most so many steps that plainly go on, the last of which may enter a function.
     pub fn advance<M: Linear>(
         &mut self,
@@ -113,7 +133,7 @@ impl<'m> Stacks<'m> {
                     entered: false,
                 });
             }
-            match self.step_on(bodies, store)? {
+            match self.onward(bodies, store)? {
                 Onward::Went => made += 1,
                 Onward::Halts => {
                     return Ok(Advance {

@@ -25,9 +25,9 @@ returns-in-Halts-clause-advanced g c =
     let both : Reaches made first term (state_of bodies c.run.new.store) (stacks_term c.run.new.self) =
     reaches_add c.loop-made.made c.in_ok-pause.pause.made first (state_of bodies c.loop-made.store) (state_of bodies c.run.new.store) term (stacks_term c.loop-made.self)
     (stacks_term c.run.new.self) c.loop-made.invariant.ran (c.in_ok-pause.ensures.ran bodies) in
-    let stepped = rw c.in-Halts.is at c.in_ok-step_on.ensures.stepped in
-    reaches_halt made c.args.limit first (state_of bodies c.run.new.store) (state_of bodies c.step_on.new.store) term (stacks_term c.run.new.self)
-    (stacks_term c.step_on.new.self) both stepped
+    let stepped = rw c.in-Halts.is at c.in_ok-onward.ensures.stepped in
+    reaches_halt made c.args.limit first (state_of bodies c.run.new.store) (state_of bodies c.onward.new.store) term (stacks_term c.run.new.self)
+    (stacks_term c.onward.new.self) both stepped
 
 pub returns-in-Entered-clause-advanced : goal.returns-in-Entered-clause-advanced
 returns-in-Entered-clause-advanced g c =
@@ -38,9 +38,9 @@ returns-in-Entered-clause-advanced g c =
     let both : Reaches made first term (state_of bodies c.run.new.store) (stacks_term c.run.new.self) =
     reaches_add c.loop-made.made c.in_ok-pause.pause.made first (state_of bodies c.loop-made.store) (state_of bodies c.run.new.store) term (stacks_term c.loop-made.self)
     (stacks_term c.run.new.self) c.loop-made.invariant.ran (c.in_ok-pause.ensures.ran bodies) in
-    let stepped = rw c.in-Entered.is at c.in_ok-step_on.ensures.stepped in
-    reaches_entry made (made + 1) first (state_of bodies c.run.new.store) (state_of bodies c.step_on.new.store) term (stacks_term c.run.new.self)
-    (stacks_term c.step_on.new.self) refl both stepped.0 stepped.1
+    let stepped = rw c.in-Entered.is at c.in_ok-onward.ensures.stepped in
+    reaches_entry made (made + 1) first (state_of bodies c.run.new.store) (state_of bodies c.onward.new.store) term (stacks_term c.run.new.self)
+    (stacks_term c.onward.new.self) refl both stepped.0 stepped.1
 
 pub loop-made-preserved : goal.loop-made-preserved
 loop-made-preserved g c =
@@ -51,12 +51,12 @@ loop-made-preserved g c =
     let both : Reaches made first term (state_of bodies c.run.new.store) (stacks_term c.run.new.self) =
     reaches_add c.loop-made.made c.in_ok-pause.pause.made first (state_of bodies c.loop-made.store) (state_of bodies c.run.new.store) term (stacks_term c.loop-made.self)
     (stacks_term c.run.new.self) c.loop-made.invariant.ran (c.in_ok-pause.ensures.ran bodies) in
-    let stepped = rw c.in-Went.is at c.in_ok-step_on.ensures.stepped in
+    let stepped = rw c.in-Went.is at c.in_ok-onward.ensures.stepped in
     record {
       few = omega (arith, c.in_ok-pause.ensures.limited);
       ran =
-          reaches_more made (made + 1) first (state_of bodies c.run.new.store) (state_of bodies c.step_on.new.store) term (stacks_term c.run.new.self)
-          (stacks_term c.step_on.new.self) refl both stepped.0 stepped.1;
+          reaches_more made (made + 1) first (state_of bodies c.run.new.store) (state_of bodies c.onward.new.store) term (stacks_term c.run.new.self)
+          (stacks_term c.onward.new.self) refl both stepped.0 stepped.1;
     }
 
 pub returns-in_err-pause-clause-refused : goal.returns-in_err-pause-clause-refused
@@ -66,8 +66,8 @@ returns-in_err-pause-clause-refused g c =
     (part_made bodies c.loop-made.made c.args.limit (state_of bodies c.args.store.now) (stacks_term c.args.self.now) c.loop-made.store c.run.new.store c.loop-made.self
     c.run.new.self c.loop-made.invariant.few c.loop-made.invariant.ran c.in_err-pause.ensures.refused c.in_err-pause.ensures.kept)
 
-pub returns-in_err-step_on-clause-refused : goal.returns-in_err-step_on-clause-refused
-returns-in_err-step_on-clause-refused g c =
+pub returns-in_err-onward-clause-refused : goal.returns-in_err-onward-clause-refused
+returns-in_err-onward-clause-refused g c =
     let bodies = c.args.bodies.now in
     let first = state_of bodies c.args.store.now in
     let term = stacks_term c.args.self.now in
@@ -76,6 +76,6 @@ returns-in_err-step_on-clause-refused g c =
     reaches_add c.loop-made.made c.in_ok-pause.pause.made first (state_of bodies c.loop-made.store) (state_of bodies c.run.new.store) term (stacks_term c.loop-made.self)
     (stacks_term c.run.new.self) c.loop-made.invariant.ran (c.in_ok-pause.ensures.ran bodies) in
     let few : made ≤ c.args.limit = omega (arith, c.in_ok-pause.ensures.limited) in
-    on_err c.from_residual-in_err-step_on.result
-    (part_made bodies made c.args.limit first term c.run.new.store c.step_on.new.store c.run.new.self c.step_on.new.self few both c.in_err-step_on.ensures.refused
-    c.in_err-step_on.ensures.kept)
+    on_err c.from_residual-in_err-onward.result
+    (part_made bodies made c.args.limit first term c.run.new.store c.onward.new.store c.run.new.self c.onward.new.self few both c.in_err-onward.ensures.refused
+    c.in_err-onward.ensures.kept)
