@@ -12,6 +12,7 @@ mod outputs;
 mod published;
 mod refusals;
 mod running;
+mod runs;
 mod samples;
 mod sections;
 mod sessions;

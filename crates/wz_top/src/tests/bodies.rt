@@ -3,6 +3,7 @@
 
 mod control;
 mod memory;
+mod numeric;
 mod traps;
 
 use super::running::{ended, joined, module, texts};
@@ -116,6 +117,14 @@ fn reaches(rt: &impl Abort, alloc: Global, case: &ShortBody) -> Result<(), Fail>
     Ok(())
 }
 
+/// Runs bodies that end.
+fn all_reach(rt: &impl Abort, alloc: Global, cases: &[ShortBody]) -> Result<(), Fail> {
+    for case in cases {
+        reaches(rt, alloc, case)?;
+    }
+    Ok(())
+}
+
 /// Runs a body with so much fuel, which ends with this line and no output.
 fn fails(rt: &impl Abort, alloc: Global, case: &Trap, fuel: &str, line: &str) -> Result<(), Fail> {
     let words = texts(alloc, &["in.wasm", "-o", "out.wasm", "--fuel"], &[fuel])?;
@@ -124,33 +133,31 @@ fn fails(rt: &impl Abort, alloc: Global, case: &Trap, fuel: &str, line: &str) ->
     Ok(())
 }
 
-#[test]
-fn control_instructions(rt: HostRuntime) -> Result<(), Fail> {
-    for case in &control::CASES {
-        reaches(&rt, rt.alloc(), case)?;
+/// Runs bodies that trap, with the fuel that just suffices and with one less.
+fn all_trap(rt: &impl Abort, alloc: Global, cases: &[Trap]) -> Result<(), Fail> {
+    for case in cases {
+        fails(rt, alloc, case, case.fuel, case.line)?;
+        fails(rt, alloc, case, case.less, "wizer: the fuel ran out\n")?;
     }
     Ok(())
+}
+
+#[test]
+fn control_instructions(rt: HostRuntime) -> Result<(), Fail> {
+    all_reach(&rt, rt.alloc(), &control::CASES)
+}
+
+#[test]
+fn numeric_instructions(rt: HostRuntime) -> Result<(), Fail> {
+    all_reach(&rt, rt.alloc(), &numeric::CASES)
 }
 
 #[test]
 fn memory_instructions(rt: HostRuntime) -> Result<(), Fail> {
-    for case in &memory::CASES {
-        reaches(&rt, rt.alloc(), case)?;
-    }
-    Ok(())
+    all_reach(&rt, rt.alloc(), &memory::CASES)
 }
 
 #[test]
 fn ways_to_trap(rt: HostRuntime) -> Result<(), Fail> {
-    for case in &traps::CASES {
-        fails(&rt, rt.alloc(), case, case.fuel, case.line)?;
-        fails(
-            &rt,
-            rt.alloc(),
-            case,
-            case.less,
-            "wizer: the fuel ran out\n",
-        )?;
-    }
-    Ok(())
+    all_trap(&rt, rt.alloc(), &traps::CASES)
 }

@@ -17,6 +17,8 @@ type Row = (CallKind, u32, u8, &'static str, Option<usize>);
 
 const INPUT: &str = "wizer: the input can't be read\n";
 
+const TOO_LONG: &str = "wizer: the input is longer than 33554432 bytes\n";
+
 const OUTPUT: &str = "wizer: the output can't be written\n";
 
 /// With 16 bytes a call: the last row of each kind is behind all of its calls.
@@ -85,6 +87,7 @@ fn an_input_that_is_missing_or_too_long_makes_no_output(rt: HostRuntime) -> Resu
     files.put_file("in.wasm", vec![in alloc; 0u8; INPUT_LIMIT + 1]?)?;
     let long = wizer(alloc, &words, &mut files, &mut messages);
     assert!(rt; matches!(&long, Outcome::InputTooLong));
+    assert!(rt; messages.text().ends_with(TOO_LONG.as_bytes()));
     assert!(rt; files.file("out.wasm").is_none());
     Ok(())
 }

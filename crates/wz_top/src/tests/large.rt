@@ -3,7 +3,7 @@
 
 ghost use Rattle.std.specs.Prelude.{◌<◌};
 
-use super::running::{Through, ended, goes_through, module, texts};
+use super::running::{Through, all_go_through, ended, module, texts};
 use super::sections::{EXPORT, FUNCTION, GLOBAL, NO_EXPORT, TYPES};
 use std::alloc::{AllocError, Global};
 use std::test::Fail;
@@ -48,10 +48,7 @@ static RECURSIONS: [Through; 2] = [
 
 #[test]
 fn as_many_frames_and_locals_as_there_may_be(rt: HostRuntime) -> Result<(), Fail> {
-    for case in &RECURSIONS {
-        goes_through(&rt, rt.alloc(), case)?;
-    }
-    Ok(())
+    all_go_through(&rt, rt.alloc(), &RECURSIONS)
 }
 
 /// A section of these contents.

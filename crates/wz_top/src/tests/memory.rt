@@ -1,10 +1,11 @@
 //! Want of memory: whichever allocation is refused, the answer is want of memory and there is no
 //! output, or the device's fault and a first part of it, or the whole output.
 //!
-//! With memory at hand it is the whole output. `rt try --test --fail-alloc N` refuses the Nth
-//! allocation; those of the tests themselves end a test with an error, too.
+//! With memory at hand it is the whole output. `bench/allocations` refuses each allocation in
+//! turn; those of the tests themselves, which all come before the tool is called, end a test with
+//! an error. `rt try --test --fail-alloc N` refuses one.
 
-use super::running::{ended, module, texts};
+use super::running::{Ending, ended, module, texts};
 use super::sections::{COPYING_INPUT, COPYING_OUTPUT, GROWING_INPUT, GROWING_OUTPUT};
 use crate::Outcome;
 use std::alloc::Global;
@@ -21,12 +22,19 @@ fn is_allowed(outcome: &Outcome, written: Option<&[u8]>, whole: &[u8]) -> bool {
     }
 }
 
+/// Whether all but the output is as it was.
+fn stays(end: &Ending, input: &[u8]) -> bool {
+    end.files.file("in.wasm") == Some(input) && end.files.stdout().is_empty()
+}
+
 /// Runs a module that goes through where memory is at hand.
 fn answers(rt: &impl Abort, alloc: Global, input: &[&[u8]], output: &[&[u8]]) -> Result<(), Fail> {
     let words = texts(alloc, &["in.wasm", "-o", "out.wasm"], &[])?;
+    let before = module(alloc, input)?;
     let whole = module(alloc, output)?;
     let end = ended(alloc, &words, module(alloc, input)?)?;
     assert!(rt; is_allowed(&end.outcome, end.files.file("out.wasm"), &whole));
+    assert!(rt; stays(&end, &before));
     Ok(())
 }
 

@@ -1,9 +1,10 @@
 //! What becomes of each part of a module: outputs, byte by byte, and reports.
 
-use super::running::{Through, goes_through};
+use super::running::{Through, all_go_through};
 use super::sections::{
-    CUSTOM, EMPTY_CODE, EXPORT, FUNCTION, FUNCTIONS, GLOBAL, GLOBAL_AFTER, IMPORT, NO_EXPORT,
-    PADDED_CUSTOM, PAGE, TABLE, TYPES,
+    ASKING_INPUT, ASKING_OUTPUT, CUSTOM, EMPTY_CODE, EXPORT, FUNCTION, FUNCTIONS, GLOBAL,
+    GLOBAL_AFTER, IMPORT, NO_EXPORT, PADDED_CUSTOM, PAGE, TABLE, TABLES_INPUT, TABLES_OUTPUT,
+    TYPES,
 };
 use std::test::Fail;
 
@@ -36,7 +37,7 @@ const REFERS: &[u8] =
 // Grows the memory by one page and by another, and keeps both answers.
 const GROWS_TWICE: &[u8] = b"\x0A\x10\x01\x0E\0\x41\x01\x40\0\x24\0\x41\x01\x40\0\x24\x01\x0B";
 
-static MADE: [Through; 14] = [
+static MADE: [Through; 16] = [
     Through {
         name: "custom sections between all others, each with a padded size",
         words: &[],
@@ -351,12 +352,23 @@ static MADE: [Through; 14] = [
         ],
         line: "wizer: 7 ticks, 16384 pages, 0 segments, 61 bytes\n",
     },
+    Through {
+        name: "a dropped segment of bytes, and one that is chosen",
+        words: &[],
+        input: ASKING_INPUT,
+        output: ASKING_OUTPUT,
+        line: "wizer: 8 ticks, 2 pages, 1 segments, 150 bytes\n",
+    },
+    Through {
+        name: "a function that nothing else declares, behind a passive segment",
+        words: &[],
+        input: TABLES_INPUT,
+        output: TABLES_OUTPUT,
+        line: "wizer: 1 ticks, 0 pages, 0 segments, 154 bytes\n",
+    },
 ];
 
 #[test]
 fn parts_stay_leave_or_are_made(rt: HostRuntime) -> Result<(), Fail> {
-    for case in &MADE {
-        goes_through(&rt, rt.alloc(), case)?;
-    }
-    Ok(())
+    all_go_through(&rt, rt.alloc(), &MADE)
 }

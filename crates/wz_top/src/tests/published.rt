@@ -1,6 +1,6 @@
 //! Published modules that go through: their outputs, byte by byte, and their reports.
 
-use super::running::{Through, goes_through};
+use super::running::{Through, all_go_through};
 use super::sections::{
     CODE, COPYING_INPUT, COPYING_OUTPUT, EMPTY_CODE, EXPORT, FUNCTION, FUNCTIONS, GLOBAL,
     GLOBAL_AFTER, GROWING_INPUT, GROWING_OUTPUT, NO_EXPORT, PAGE, SECOND_EXPORT, THREE_EMPTY,
@@ -274,8 +274,5 @@ static PUBLISHED: [Through; 16] = [
 
 #[test]
 fn published_modules_go_through(rt: HostRuntime) -> Result<(), Fail> {
-    for case in &PUBLISHED {
-        goes_through(&rt, rt.alloc(), case)?;
-    }
-    Ok(())
+    all_go_through(&rt, rt.alloc(), &PUBLISHED)
 }

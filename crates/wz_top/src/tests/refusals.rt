@@ -1,7 +1,7 @@
 //! What is refused for its words, its input, or what the words ask of it.
 
-use super::running::{HEADER, Refused, ended, is_refused, joined, texts};
-use super::sections::{CODE, EMPTY_CODE, EXPORT, FUNCTION, GLOBAL, TYPES};
+use super::running::{HEADER, Refused, all_are_refused, ended, joined, texts};
+use super::sections::{CODE, EMPTY_CODE, EXPORT, FUNCTION, GLOBAL, NO_EXPORT, TYPES};
 use std::alloc::Global;
 use std::process::Abort;
 use std::test::Fail;
@@ -80,11 +80,17 @@ static SETTINGS: [Refused; 5] = [
     },
 ];
 
-static INPUTS: [Refused; 15] = [
+static INPUTS: [Refused; 16] = [
     Refused {
         name: "the header alone",
         words: &[],
         input: &[HEADER],
+        line: "wizer: there is no export \"wizer.initialize\"\n",
+    },
+    Refused {
+        name: "no exports",
+        words: &[],
+        input: &[HEADER, TYPES, FUNCTION, GLOBAL, NO_EXPORT, CODE],
         line: "wizer: there is no export \"wizer.initialize\"\n",
     },
     Refused {
@@ -226,6 +232,45 @@ static INPUTS: [Refused; 15] = [
     },
 ];
 
+/// The first length to which a module is cut, the one behind the last, and the line.
+static CUTS: [(usize, usize, &str); 11] = [
+    (
+        0,
+        8,
+        "wizer: the input is no WebAssembly module of version 1\n",
+    ),
+    (8, 9, "wizer: there is no export \"wizer.initialize\"\n"),
+    (
+        9,
+        14,
+        "wizer: section 0 is outside this profile's grammar\n",
+    ),
+    (14, 15, "wizer: there is no export \"wizer.initialize\"\n"),
+    (
+        15,
+        18,
+        "wizer: section 1 is outside this profile's grammar\n",
+    ),
+    (18, 19, "wizer: the counts of the sections don't agree\n"),
+    (
+        19,
+        26,
+        "wizer: section 2 is outside this profile's grammar\n",
+    ),
+    (26, 27, "wizer: the counts of the sections don't agree\n"),
+    (
+        27,
+        48,
+        "wizer: section 3 is outside this profile's grammar\n",
+    ),
+    (48, 49, "wizer: the counts of the sections don't agree\n"),
+    (
+        49,
+        58,
+        "wizer: section 4 is outside this profile's grammar\n",
+    ),
+];
+
 #[test]
 fn words_at_fault(rt: HostRuntime) -> Result<(), Fail> {
     let alloc = rt.alloc();
@@ -238,16 +283,34 @@ fn words_at_fault(rt: HostRuntime) -> Result<(), Fail> {
 
 #[test]
 fn other_inputs(rt: HostRuntime) -> Result<(), Fail> {
-    for case in &INPUTS {
-        is_refused(&rt, rt.alloc(), case)?;
+    all_are_refused(&rt, rt.alloc(), &INPUTS)
+}
+
+#[test]
+fn other_settings(rt: HostRuntime) -> Result<(), Fail> {
+    all_are_refused(&rt, rt.alloc(), &SETTINGS)
+}
+
+/// Runs the module cut to each of these lengths.
+fn are_refused(
+    rt: &impl Abort,
+    alloc: Global,
+    (first, end, line): (usize, usize, &str),
+) -> Result<(), Fail> {
+    let words = texts(alloc, &["in.wasm", "-o", "out.wasm"], &[])?;
+    let whole = joined(alloc, USUAL)?;
+    for length in first..end {
+        let mut input = whole.clone()?;
+        input.truncate(length);
+        ended(alloc, &words, input)?.is_refused(rt, 1, line, line);
     }
     Ok(())
 }
 
 #[test]
-fn other_settings(rt: HostRuntime) -> Result<(), Fail> {
-    for case in &SETTINGS {
-        is_refused(&rt, rt.alloc(), case)?;
+fn a_module_that_is_cut(rt: HostRuntime) -> Result<(), Fail> {
+    for cut in &CUTS {
+        are_refused(&rt, rt.alloc(), *cut)?;
     }
     Ok(())
 }

@@ -114,10 +114,34 @@ pub(super) fn goes_through(rt: &impl Abort, alloc: Global, case: &Through) -> Re
     Ok(())
 }
 
+/// Runs cases that go through.
+pub(super) fn all_go_through(
+    rt: &impl Abort,
+    alloc: Global,
+    cases: &[Through],
+) -> Result<(), Fail> {
+    for case in cases {
+        goes_through(rt, alloc, case)?;
+    }
+    Ok(())
+}
+
 /// Runs a case that is refused for its input.
 pub(super) fn is_refused(rt: &impl Abort, alloc: Global, case: &Refused) -> Result<(), Fail> {
     let words = texts(alloc, &["in.wasm", "-o", "out.wasm"], case.words)?;
     let end = ended(alloc, &words, joined(alloc, case.input)?)?;
     end.is_refused(rt, 1, case.name, case.line);
+    Ok(())
+}
+
+/// Runs cases that are refused for their input.
+pub(super) fn all_are_refused(
+    rt: &impl Abort,
+    alloc: Global,
+    cases: &[Refused],
+) -> Result<(), Fail> {
+    for case in cases {
+        is_refused(rt, alloc, case)?;
+    }
     Ok(())
 }
