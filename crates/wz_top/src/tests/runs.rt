@@ -8,7 +8,7 @@ use super::sections::{
 };
 use std::test::Fail;
 
-static STOPS: [Refused; 52] = [
+static PHASES: [Refused; 11] = [
     Refused {
         name: "start traps",
         words: &["--reactor"],
@@ -152,6 +152,9 @@ static STOPS: [Refused; 52] = [
         ],
         line: "wizer: the fuel ran out\n",
     },
+];
+
+static IMPORTS: [Refused; 11] = [
     Refused {
         name: "start calls an import",
         words: &["--reactor"],
@@ -298,6 +301,9 @@ static STOPS: [Refused; 52] = [
         ],
         line: "wizer: the initialisation calls import 1\n",
     },
+];
+
+static OPERATIONS: [Refused; 16] = [
     Refused {
         name: "table.set out of bounds",
         words: &[],
@@ -502,6 +508,9 @@ static STOPS: [Refused; 52] = [
         ],
         line: "wizer: the fuel ran out\n",
     },
+];
+
+static LIMITS: [Refused; 14] = [
     Refused {
         name: "the least number by -1",
         words: &[],
@@ -679,6 +688,21 @@ static STOPS: [Refused; 52] = [
 ];
 
 #[test]
-fn runs_that_stop(rt: HostRuntime) -> Result<(), Fail> {
-    all_are_refused(&rt, rt.alloc(), &STOPS)
+fn traps_and_fuel_of_each_phase(rt: HostRuntime) -> Result<(), Fail> {
+    all_are_refused(&rt, rt.alloc(), &PHASES)
+}
+
+#[test]
+fn imports_that_are_called(rt: HostRuntime) -> Result<(), Fail> {
+    all_are_refused(&rt, rt.alloc(), &IMPORTS)
+}
+
+#[test]
+fn tables_and_floats(rt: HostRuntime) -> Result<(), Fail> {
+    all_are_refused(&rt, rt.alloc(), &OPERATIONS)
+}
+
+#[test]
+fn limits_and_segments(rt: HostRuntime) -> Result<(), Fail> {
+    all_are_refused(&rt, rt.alloc(), &LIMITS)
 }
