@@ -148,8 +148,28 @@ fn control_instructions(rt: HostRuntime) -> Result<(), Fail> {
 }
 
 #[test]
-fn numeric_instructions(rt: HostRuntime) -> Result<(), Fail> {
-    all_reach(&rt, rt.alloc(), &numeric::CASES)
+fn i32_operations(rt: HostRuntime) -> Result<(), Fail> {
+    all_reach(&rt, rt.alloc(), &numeric::I32_OPERATIONS)
+}
+
+#[test]
+fn i32_comparisons(rt: HostRuntime) -> Result<(), Fail> {
+    all_reach(&rt, rt.alloc(), &numeric::I32_COMPARISONS)
+}
+
+#[test]
+fn i64_operations(rt: HostRuntime) -> Result<(), Fail> {
+    all_reach(&rt, rt.alloc(), &numeric::I64_OPERATIONS)
+}
+
+#[test]
+fn i64_comparisons(rt: HostRuntime) -> Result<(), Fail> {
+    all_reach(&rt, rt.alloc(), &numeric::I64_COMPARISONS)
+}
+
+#[test]
+fn float_operations_on_bits(rt: HostRuntime) -> Result<(), Fail> {
+    all_reach(&rt, rt.alloc(), &numeric::FLOATS)
 }
 
 #[test]

@@ -2,7 +2,7 @@
 
 use super::{F64, I32, I64, PASSIVE, ShortBody};
 
-pub(super) static CASES: [ShortBody; 9] = [
+pub(super) static I32_OPERATIONS: [ShortBody; 2] = [
     ShortBody {
         name: "i32 operations, -7 and 3",
         before: I32,
@@ -47,6 +47,37 @@ pub(super) static CASES: [ShortBody; 9] = [
         ],
         line: "wizer: 76 ticks, 1 pages, 1 segments, 320 bytes\n",
     },
+    ShortBody {
+        name: "i32 operations of one operand",
+        before: I32,
+        body: &[
+            b"\0",
+            b"\x41\0\x41\x80\x81\xC3\x07\x67\x36\x02\x10", // clz
+            b"\x41\0\x41\x80\x81\xC3\x07\x68\x36\x02\x14", // ctz
+            b"\x41\0\x41\x80\x81\xC3\x07\x69\x36\x02\x18", // popcnt
+            b"\x41\0\x41\x80\x81\xC3\x07\xC0\x36\x02\x1C", // extend8_s
+            b"\x41\0\x41\x80\x81\xC3\x07\xC1\x36\x02\x20", // extend16_s
+            b"\x41\0\x41\0\x45\x36\x02\x24", // eqz
+            b"\x41\0\x42\x86\x80\x80\x80\x70\xA7\x36\x02\x28", // wrap_i64
+            b"\x0B",
+        ],
+        after: I32,
+        data: &[
+            b"\x0B\x34\x02\0\x41\0\x0B\x29\x81\x82\x83\x84\x85\x86\x87\x88\0\0\0\0\0\0\0\0",
+            b"\x08\0\0\0", // clz
+            b"\x07\0\0\0", // ctz
+            b"\x07\0\0\0", // popcnt
+            b"\x80\xFF\xFF\xFF", // extend8_s
+            b"\x80\xC0\xFF\xFF", // extend16_s
+            b"\x01\0\0\0", // eqz
+            b"\x06", // wrap_i64
+            PASSIVE,
+        ],
+        line: "wizer: 29 ticks, 1 pages, 1 segments, 208 bytes\n",
+    },
+];
+
+pub(super) static I32_COMPARISONS: [ShortBody; 2] = [
     ShortBody {
         name: "i32 comparisons, -7 and 3",
         before: I32,
@@ -115,6 +146,9 @@ pub(super) static CASES: [ShortBody; 9] = [
         ],
         line: "wizer: 71 ticks, 1 pages, 1 segments, 250 bytes\n",
     },
+];
+
+pub(super) static I64_OPERATIONS: [ShortBody; 2] = [
     ShortBody {
         name: "i64 operations, -7 and 3",
         before: I64,
@@ -159,6 +193,41 @@ pub(super) static CASES: [ShortBody; 9] = [
         ],
         line: "wizer: 76 ticks, 1 pages, 1 segments, 383 bytes\n",
     },
+    ShortBody {
+        name: "i64 operations of one operand",
+        before: I64,
+        body: &[
+            b"\0",
+            b"\x41\0\x42\x80\xA1\x82\x85\x8C\x9C\x3C\x79\x37\x03\x10", // clz
+            b"\x41\0\x42\x80\xA1\x82\x85\x8C\x9C\x3C\x7A\x37\x03\x18", // ctz
+            b"\x41\0\x42\x80\xA1\x82\x85\x8C\x9C\x3C\x7B\x37\x03\x20", // popcnt
+            b"\x41\0\x42\x80\xA1\x82\x85\x8C\x9C\x3C\xC2\x37\x03\x28", // extend8_s
+            b"\x41\0\x42\x80\xA1\x82\x85\x8C\x9C\x3C\xC3\x37\x03\x30", // extend16_s
+            b"\x41\0\x42\x80\xA1\x82\x85\x8C\x9C\x3C\xC4\x37\x03\x38", // extend32_s
+            b"\x41\0\x42\0\x50\x36\x02\x40", // eqz
+            b"\x41\0\x41\x7E\xAC\x37\x03\x44", // extend_i32_s
+            b"\x41\0\x41\x7E\xAD\x37\x03\x4C", // extend_i32_u
+            b"\x0B",
+        ],
+        after: I64,
+        data: &[
+            b"\x0B\x5B\x02\0\x41\0\x0B\x50\x81\x82\x83\x84\x85\x86\x87\x88\0\0\0\0\0\0\0\0",
+            b"\x10\0\0\0\0\0\0\0", // clz
+            b"\x07\0\0\0\0\0\0\0", // ctz
+            b"\x0E\0\0\0\0\0\0\0", // popcnt
+            b"\x80\xFF\xFF\xFF\xFF\xFF\xFF\xFF", // extend8_s
+            b"\x80\x90\xFF\xFF\xFF\xFF\xFF\xFF", // extend16_s
+            b"\x80\x90\xA0\xC0\xFF\xFF\xFF\xFF", // extend32_s
+            b"\x01\0\0\0", // eqz
+            b"\xFE\xFF\xFF\xFF\xFF\xFF\xFF\xFF", // extend_i32_s
+            b"\xFE\xFF\xFF\xFF", // extend_i32_u
+            PASSIVE,
+        ],
+        line: "wizer: 37 ticks, 1 pages, 1 segments, 280 bytes\n",
+    },
+];
+
+pub(super) static I64_COMPARISONS: [ShortBody; 2] = [
     ShortBody {
         name: "i64 comparisons, -7 and 3",
         before: I64,
@@ -227,99 +296,40 @@ pub(super) static CASES: [ShortBody; 9] = [
         ],
         line: "wizer: 71 ticks, 1 pages, 1 segments, 250 bytes\n",
     },
-    ShortBody {
-        name: "i32 operations of one operand",
-        before: I32,
-        body: &[
-            b"\0",
-            b"\x41\0\x41\x80\x81\xC3\x07\x67\x36\x02\x10", // clz
-            b"\x41\0\x41\x80\x81\xC3\x07\x68\x36\x02\x14", // ctz
-            b"\x41\0\x41\x80\x81\xC3\x07\x69\x36\x02\x18", // popcnt
-            b"\x41\0\x41\x80\x81\xC3\x07\xC0\x36\x02\x1C", // extend8_s
-            b"\x41\0\x41\x80\x81\xC3\x07\xC1\x36\x02\x20", // extend16_s
-            b"\x41\0\x41\0\x45\x36\x02\x24", // eqz
-            b"\x41\0\x42\x86\x80\x80\x80\x70\xA7\x36\x02\x28", // wrap_i64
-            b"\x0B",
-        ],
-        after: I32,
-        data: &[
-            b"\x0B\x34\x02\0\x41\0\x0B\x29\x81\x82\x83\x84\x85\x86\x87\x88\0\0\0\0\0\0\0\0",
-            b"\x08\0\0\0", // clz
-            b"\x07\0\0\0", // ctz
-            b"\x07\0\0\0", // popcnt
-            b"\x80\xFF\xFF\xFF", // extend8_s
-            b"\x80\xC0\xFF\xFF", // extend16_s
-            b"\x01\0\0\0", // eqz
-            b"\x06", // wrap_i64
-            PASSIVE,
-        ],
-        line: "wizer: 29 ticks, 1 pages, 1 segments, 208 bytes\n",
-    },
-    ShortBody {
-        name: "i64 operations of one operand",
-        before: I64,
-        body: &[
-            b"\0",
-            b"\x41\0\x42\x80\xA1\x82\x85\x8C\x9C\x3C\x79\x37\x03\x10", // clz
-            b"\x41\0\x42\x80\xA1\x82\x85\x8C\x9C\x3C\x7A\x37\x03\x18", // ctz
-            b"\x41\0\x42\x80\xA1\x82\x85\x8C\x9C\x3C\x7B\x37\x03\x20", // popcnt
-            b"\x41\0\x42\x80\xA1\x82\x85\x8C\x9C\x3C\xC2\x37\x03\x28", // extend8_s
-            b"\x41\0\x42\x80\xA1\x82\x85\x8C\x9C\x3C\xC3\x37\x03\x30", // extend16_s
-            b"\x41\0\x42\x80\xA1\x82\x85\x8C\x9C\x3C\xC4\x37\x03\x38", // extend32_s
-            b"\x41\0\x42\0\x50\x36\x02\x40", // eqz
-            b"\x41\0\x41\x7E\xAC\x37\x03\x44", // extend_i32_s
-            b"\x41\0\x41\x7E\xAD\x37\x03\x4C", // extend_i32_u
-            b"\x0B",
-        ],
-        after: I64,
-        data: &[
-            b"\x0B\x5B\x02\0\x41\0\x0B\x50\x81\x82\x83\x84\x85\x86\x87\x88\0\0\0\0\0\0\0\0",
-            b"\x10\0\0\0\0\0\0\0", // clz
-            b"\x07\0\0\0\0\0\0\0", // ctz
-            b"\x0E\0\0\0\0\0\0\0", // popcnt
-            b"\x80\xFF\xFF\xFF\xFF\xFF\xFF\xFF", // extend8_s
-            b"\x80\x90\xFF\xFF\xFF\xFF\xFF\xFF", // extend16_s
-            b"\x80\x90\xA0\xC0\xFF\xFF\xFF\xFF", // extend32_s
-            b"\x01\0\0\0", // eqz
-            b"\xFE\xFF\xFF\xFF\xFF\xFF\xFF\xFF", // extend_i32_s
-            b"\xFE\xFF\xFF\xFF", // extend_i32_u
-            PASSIVE,
-        ],
-        line: "wizer: 37 ticks, 1 pages, 1 segments, 280 bytes\n",
-    },
-    ShortBody {
-        name: "float operations on bits",
-        before: F64,
-        body: &[
-            b"\0",
-            b"\x41\0\x43\x01\0\xA0\xFF\x8B\x38\x02\x10", // f32.abs
-            b"\x41\0\x43\x01\0\xA0\xFF\x8C\x38\x02\x14", // f32.neg
-            b"\x41\0\x43\x01\0\xA0\xFF\x43\0\0\x80\x3F\x98\x38\x02\x18", // f32.copysign
-            b"\x41\0\x43\x01\0\xA0\xFF\xBC\x36\x02\x1C", // i32.reinterpret_f32
-            b"\x41\0\x41\x7E\xBE\x38\x02\x20", // f32.reinterpret_i32
-            b"\x41\0\x44\x01\0\0\0\0\0\xF4\xFF\x99\x39\x03\x24", // f64.abs
-            b"\x41\0\x44\x01\0\0\0\0\0\xF4\xFF\x9A\x39\x03\x2C", // f64.neg
-            // f64.copysign
-            b"\x41\0\x44\0\0\0\0\0\0\xF0\x3F\x44\x01\0\0\0\0\0\xF4\xFF\xA6\x39\x03\x34",
-            b"\x41\0\x44\x01\0\0\0\0\0\xF4\xFF\xBD\x37\x03\x3C", // i64.reinterpret_f64
-            b"\x41\0\x42\x7E\xBF\x39\x03\x44", // f64.reinterpret_i64
-            b"\x0B",
-        ],
-        after: F64,
-        data: &[
-            b"\x0B\x57\x02\0\x41\0\x0B\x4C\x81\x82\x83\x84\x85\x86\x87\x88\0\0\0\0\0\0\0\0",
-            b"\x01\0\xA0\x7F", // f32.abs
-            b"\x01\0\xA0\x7F", // f32.neg
-            b"\x01\0\xA0\x7F", // f32.copysign
-            b"\x01\0\xA0\xFF", // i32.reinterpret_f32
-            b"\xFE\xFF\xFF\xFF", // f32.reinterpret_i32
-            b"\x01\0\0\0\0\0\xF4\x7F", // f64.abs
-            b"\x01\0\0\0\0\0\xF4\x7F", // f64.neg
-            b"\0\0\0\0\0\0\xF0\xBF", // f64.copysign
-            b"\x01\0\0\0\0\0\xF4\xFF", // i64.reinterpret_f64
-            b"\xFE\xFF\xFF\xFF\xFF\xFF\xFF\xFF", // f64.reinterpret_i64
-            PASSIVE,
-        ],
-        line: "wizer: 43 ticks, 1 pages, 1 segments, 311 bytes\n",
-    },
 ];
+
+pub(super) static FLOATS: [ShortBody; 1] = [ShortBody {
+    name: "float operations on bits",
+    before: F64,
+    body: &[
+        b"\0",
+        b"\x41\0\x43\x01\0\xA0\xFF\x8B\x38\x02\x10", // f32.abs
+        b"\x41\0\x43\x01\0\xA0\xFF\x8C\x38\x02\x14", // f32.neg
+        b"\x41\0\x43\x01\0\xA0\xFF\x43\0\0\x80\x3F\x98\x38\x02\x18", // f32.copysign
+        b"\x41\0\x43\x01\0\xA0\xFF\xBC\x36\x02\x1C", // i32.reinterpret_f32
+        b"\x41\0\x41\x7E\xBE\x38\x02\x20", // f32.reinterpret_i32
+        b"\x41\0\x44\x01\0\0\0\0\0\xF4\xFF\x99\x39\x03\x24", // f64.abs
+        b"\x41\0\x44\x01\0\0\0\0\0\xF4\xFF\x9A\x39\x03\x2C", // f64.neg
+        // f64.copysign
+        b"\x41\0\x44\0\0\0\0\0\0\xF0\x3F\x44\x01\0\0\0\0\0\xF4\xFF\xA6\x39\x03\x34",
+        b"\x41\0\x44\x01\0\0\0\0\0\xF4\xFF\xBD\x37\x03\x3C", // i64.reinterpret_f64
+        b"\x41\0\x42\x7E\xBF\x39\x03\x44", // f64.reinterpret_i64
+        b"\x0B",
+    ],
+    after: F64,
+    data: &[
+        b"\x0B\x57\x02\0\x41\0\x0B\x4C\x81\x82\x83\x84\x85\x86\x87\x88\0\0\0\0\0\0\0\0",
+        b"\x01\0\xA0\x7F", // f32.abs
+        b"\x01\0\xA0\x7F", // f32.neg
+        b"\x01\0\xA0\x7F", // f32.copysign
+        b"\x01\0\xA0\xFF", // i32.reinterpret_f32
+        b"\xFE\xFF\xFF\xFF", // f32.reinterpret_i32
+        b"\x01\0\0\0\0\0\xF4\x7F", // f64.abs
+        b"\x01\0\0\0\0\0\xF4\x7F", // f64.neg
+        b"\0\0\0\0\0\0\xF0\xBF", // f64.copysign
+        b"\x01\0\0\0\0\0\xF4\xFF", // i64.reinterpret_f64
+        b"\xFE\xFF\xFF\xFF\xFF\xFF\xFF\xFF", // f64.reinterpret_i64
+        PASSIVE,
+    ],
+    line: "wizer: 43 ticks, 1 pages, 1 segments, 311 bytes\n",
+}];
