@@ -13,7 +13,7 @@ use std::alloc::Global;
 pub const INPUT_LIMIT: usize = 33_554_432;
 
 // The longest piece that one read asks for.
-const PIECE: usize = 4096;
+const PIECE: usize = 65_536;
 
 /// Why an input wasn't read to its end.
 #[derive(Clone, Copy, Debug, PartialEq, Eq)]
