@@ -1,4 +1,4 @@
-//! The types and values of WebAssembly that every other crate speaks of, and names as texts.
+//! The types and values of WebAssembly, and names as texts.
 //!
 //! Contracts see a `Text` as the list of its bytes, a `FuncType` as its two lists and a `Values` as
 //! the list of its items; all else is plain data. When a value may stand where a type is asked for
