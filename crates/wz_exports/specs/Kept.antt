@@ -1,5 +1,5 @@
--- Which of a module's exports the output has, and under which names; or why it can have none. This is the tool's own rule: the functions
--- that ran lose their exports, a rename overwrites what had its new name, and all other exports stay.
+-- Which of a module's exports the output has, and under which names; or why it can have none. This is the tool's own rule: the exports
+-- by which the functions that ran were named leave, a rename overwrites what had its new name, and all other exports stay.
 use Rattle.std.specs.Prelude.{ℕ, List, [], ◌∷◌, Bool, not, ◌&&◌, ◌||◌, Option, Some, None, Result, Ok, Err, if◌then◌else◌, codes}
 use Rattle.std.specs.List.{flat_map}
 use Rattle.std.specs.Str.{bytes_eq}
@@ -21,7 +21,7 @@ use Rattle.wz_exports.specs.Functions.{takes_nothing}
 abbrev pub reactor_name : List ℕ
 reactor_name = codes "_initialize"
 
--- the export is one of a function that ran, and such exports leave
+-- the export of this name is that of the initialisation, or of a reactor, and such exports leave
 abbrev pub leaves : Settings → List ℕ → Bool
 leaves s name = not s.keep_init && (bytes_eq name s.function || (s.reactor && bytes_eq name reactor_name))
 

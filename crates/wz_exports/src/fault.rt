@@ -16,7 +16,7 @@ pub enum ExportFault {
     RenameMissing { src: Text },
     /// The export that is to be renamed is no function.
     RenameNotFunction { src: Text },
-    /// The export that is to be renamed leaves, since its function ran.
+    /// The export that is to be renamed leaves, since a function that ran was named by it.
     RenameInit { src: Text },
     NoMemory,
 }

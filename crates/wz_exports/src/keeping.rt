@@ -72,7 +72,7 @@ fn reactor_in(
     Ok(Some(function))
 }
 
-/// Whether the export of a name leaves because its function ran.
+/// Whether the export of a name leaves because a function that ran was named by it.
 fn leaves(settings: &Settings, name: &str) -> bool
     ensures { result ≡ leaves (settings_of settings.now) name.now }
 {
