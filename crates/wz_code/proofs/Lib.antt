@@ -4,6 +4,8 @@ pub mod LayoutLemmas
 pub mod BuildLemmas
 pub mod OrderLemmas
 pub mod LawLemmas
+pub mod NumberLemmas
+pub mod ReferenceLemmas
 pub mod WalkLemmas
 pub mod FindLemmas
 pub mod NumericLemmas
