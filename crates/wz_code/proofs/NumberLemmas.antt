@@ -53,6 +53,13 @@ in-both xs ys zs one other f h = elim (has-cases f xs ys h) [
   | inr later ↦ other f later
 ]
 
+-- the two parts of a list that is in another
+pub in-first : (xs ys zs : List ℕ) → AreIn (xs ++ ys) zs → AreIn xs zs
+in-first xs ys zs both f h = both f (has-first f xs ys h)
+
+pub in-second : (xs ys zs : List ℕ) → AreIn (xs ++ ys) zs → AreIn ys zs
+in-second xs ys zs both f h = both f (has-second f xs ys h)
+
 pub all-from-has : (P : ℕ → Type 0) (xs : List ℕ) → ((f : ℕ) → Has f xs → P f) → All P xs
 all-from-has P [] each = All-nil P
 all-from-has P (x ∷ xs) each = All-cons P x xs (each x (has-here x xs)) (all-from-has P xs (λ f h. each f (has-later f x xs h)))

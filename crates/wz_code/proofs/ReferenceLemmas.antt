@@ -1,16 +1,17 @@
 -- The references that a body's tree makes are those of its instructions, block by block. Proofs of other crates may cite this file.
 use Rattle.std.proofs.Common.{◌≡◌, ℕ, zero, suc, ◌+◌, ◌<◌, ◌≤◌, List, [], ◌∷◌, ◌++◌, length, Option, Some, None, ◌⊎◌, inl, inr, Bool, true, false, cond, refl, sym, ap}
-use Rattle.std.proofs.Common.{subst, ◌∙◌, append-nil, append_assoc, unwrap_or, arith, ◌==◌}
+use Rattle.std.proofs.Common.{subst, ◌∙◌, append-nil, append_assoc, unwrap_or, arith, ◌==◌, All}
 use Rattle.std.specs.Cmp.{both_ways}
 use Rattle.std.specs.List.{flat_map}
 use Rattle.std.proofs.lemmas.List.Concat.{flat_map-append}
+use Rattle.std.proofs.lemmas.List.Elements.{All-nil, All-head, All-tail}
 use Rattle.std.proofs.lemmas.Option.{slice_get_past}
 use Rattle.std.proofs.lemmas.Bool.{lt-ltb, eqb-true}
 use Rattle.wz_types.specs.declared.types.ValType.{ValType}
 use Rattle.wz_code.specs.declared.instr.Instr.{Instr}
 use Rattle.wz_code.specs.declared.instr.Instr.TheVariants.{Block, Loop, If}
 use Rattle.wz_code.specs.BodyParts.{Blocks, BodyParts, block_at}
-use Rattle.wz_code.specs.BlockRule.{Every, named, Names, times, namings, all_namings, BlockRule}
+use Rattle.wz_code.specs.BlockRule.{named, Names, times, namings, all_namings, BlockRule}
 use Rattle.wz_code.specs.Trees.{Code, leaf_of, headed, expand, tree_of}
 use Rattle.wz_code.specs.Walking.{in_order}
 use Rattle.wz_code.specs.References.{has_number, referred_by, referred_in}
@@ -48,10 +49,13 @@ module _ (labels : List ℕ) (types : List ValType) (inner : ℕ → Code) (f : 
   abbrev Holds : ℕ → Type 0
   Holds k = Has f (referred_in (inner k))
 
-  named-has : (Is : ℕ → Type 0) (ks : List ℕ) → Every Is ks → Has f (flat_map (λ k. referred_in (inner k)) ks) → (k : ℕ) × Is k × Holds k
+  named-has : (Is : ℕ → Type 0) (ks : List ℕ) → All Is ks → Has f (flat_map (λ k. referred_in (inner k)) ks) → (k : ℕ) × Is k × Holds k
   named-has Is [] every h = absurd cc
   named-has Is (k ∷ ks) every h =
-      elim (has-cases f (referred_in (inner k)) (flat_map (λ k. referred_in (inner k)) ks) h) [ inl here ↦ (k, every.0, here) | inr later ↦ named-has Is ks every.1 later ]
+      elim (has-cases f (referred_in (inner k)) (flat_map (λ k. referred_in (inner k)) ks) h) [
+        | inl here ↦ (k, All-head Is k ks every, here)
+        | inr later ↦ named-has Is ks (All-tail Is k ks every) later
+      ]
 
   -- a reference of the tree is made by one of the instructions, or in a block that they name
   tree-cases : (Is : ℕ → Type 0) (code : List Instr) → Names Is code → Has f (referred_in (expand (leaf_of labels types) inner code))
@@ -60,14 +64,15 @@ module _ (labels : List ℕ) (types : List ValType) (inner : ℕ → Code) (f : 
   tree-cases Is (instr ∷ code) names h =
       let rest = expand (leaf_of labels types) inner code in
       let inside = flat_map (λ k. referred_in (inner k)) (named instr) in
+      let Such : Instr → Type 0 = λ i. All Is (named i) in
       let split = subst (λ (xs : List ℕ). Has f xs) (headed-refers labels types inner instr rest) h in
       let own : Has f (own_references code) → Has f (own_references (instr ∷ code)) = has-second f (referred_by instr) (own_references code) in
       elim (has-cases f (referred_by instr) (inside ++ referred_in rest) split) [
         | inl here ↦ inl (has-first f (referred_by instr) (own_references code) here)
         | inr more ↦
             elim (has-cases f inside (referred_in rest) more) [
-              | inl within ↦ inr (named-has Is (named instr) names.0 within)
-              | inr later ↦ elim (tree-cases Is code names.1 later) [ inl found ↦ inl (own found) | inr block ↦ inr block ]
+              | inl within ↦ inr (named-has Is (named instr) (All-head Such instr code names) within)
+              | inr later ↦ elim (tree-cases Is code (All-tail Such instr code names) later) [ inl found ↦ inl (own found) | inr block ↦ inr block ]
             ]
       ]
 
@@ -111,19 +116,19 @@ module _ (labels : List ℕ) (types : List ValType) (inner : ℕ → Code) (f : 
 
 -- ---- which block names another
 
-pub every-named : (Is : ℕ → Type 0) (k : ℕ) (ks : List ℕ) → Every Is ks → 1 ≤ times k ks → Is k
-every-named Is k [] every some = absurd (omega (arith, some))
-every-named Is k (n ∷ ks) every some = by (n == k) refl some (λ few. every-named Is k ks every.1 few) where
+pub all-named : (Is : ℕ → Type 0) (k : ℕ) (ks : List ℕ) → All Is ks → 1 ≤ times k ks → Is k
+all-named Is k [] every some = absurd (omega (arith, some))
+all-named Is k (n ∷ ks) every some = by (n == k) refl some (λ few. all-named Is k ks (All-tail Is n ks every) few) where
   by : (b : Bool) → (n == k) ≡ b → 1 ≤ cond b 1 0 + times k ks → (1 ≤ times k ks → Is k) → Is k
-  by true same few later = subst Is (eqb-true n k same) every.0
+  by true same few later = subst Is (eqb-true n k same) (All-head Is n ks every)
   by false same few later = later (omega (arith, few))
 
 pub names-such : (Is : ℕ → Type 0) (k : ℕ) (code : List Instr) → Names Is code → 1 ≤ namings k code → Is k
 names-such Is k [] names some = absurd (omega (arith, some))
-names-such Is k (instr ∷ code) names some = by (times k (named instr)) refl (λ few. names-such Is k code names.1 few) where
+names-such Is k (instr ∷ code) names some = by (times k (named instr)) refl (λ few. names-such Is k code (All-tail (λ i. All Is (named i)) instr code names) few) where
   by : (n : ℕ) → times k (named instr) ≡ n → (1 ≤ namings k code → Is k) → Is k
   by zero none later = later (omega (arith, some, none))
-  by (suc n) here later = every-named Is k (named instr) names.0 (omega (arith, here))
+  by (suc n) here later = all-named Is k (named instr) (All-head (λ i. All Is (named i)) instr code names) (omega (arith, here))
 
 -- a block that is named is named in one of the blocks
 pub naming-block : (k : ℕ) (blocks : Blocks) → 1 ≤ all_namings k blocks → (j : ℕ) × (1 ≤ namings k (block_at blocks j))
@@ -168,7 +173,7 @@ module _ (body : BodyParts) (rule : BlockRule body) (f : ℕ) where
 
   past-none : (k : ℕ) → length body.blocks ≤ k → Names (λ j. ⊥) (block_at body.blocks k)
   past-none k past =
-      subst (λ (o : Option (List Instr)). Names (λ j. ⊥) (unwrap_or o [])) (sym (slice_get_past body.blocks k past)) tt
+      subst (λ (o : Option (List Instr)). Names (λ j. ⊥) (unwrap_or o [])) (sym (slice_get_past body.blocks k past)) (All-nil (λ (i : Instr). All (λ j. ⊥) (named i)))
 
   in-blocks : (n k : ℕ) → length body.blocks ≤ k + n → At k → Has f (all_own body.blocks)
   in-blocks zero k past h =
