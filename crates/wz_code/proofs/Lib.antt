@@ -5,6 +5,7 @@ pub mod BuildLemmas
 pub mod OrderLemmas
 pub mod LawLemmas
 pub mod NumberLemmas
+pub mod NamingLemmas
 pub mod ReferenceLemmas
 pub mod WalkLemmas
 pub mod FindLemmas

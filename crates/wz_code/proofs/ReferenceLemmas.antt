@@ -6,24 +6,18 @@ use Rattle.std.specs.List.{flat_map}
 use Rattle.std.proofs.lemmas.List.Concat.{flat_map-append}
 use Rattle.std.proofs.lemmas.List.Elements.{All-nil, All-head, All-tail}
 use Rattle.std.proofs.lemmas.Option.{slice_get_past}
-use Rattle.std.proofs.lemmas.Bool.{lt-ltb, eqb-true}
+use Rattle.std.proofs.lemmas.Bool.{eqb-true}
 use Rattle.wz_types.specs.declared.types.ValType.{ValType}
 use Rattle.wz_code.specs.declared.instr.Instr.{Instr}
 use Rattle.wz_code.specs.declared.instr.Instr.TheVariants.{Block, Loop, If}
 use Rattle.wz_code.specs.BodyParts.{Blocks, BodyParts, block_at}
-use Rattle.wz_code.specs.BlockRule.{named, Names, times, namings, all_namings, BlockRule}
+use Rattle.wz_code.specs.BlockRule.{named, Names, times, namings, BlockRule}
 use Rattle.wz_code.specs.Trees.{Code, leaf_of, headed, expand, tree_of}
 use Rattle.wz_code.specs.Walking.{in_order}
 use Rattle.wz_code.specs.References.{has_number, referred_by, referred_in}
 use Rattle.wz_code.proofs.LawLemmas.{tree_of_block}
+use Rattle.wz_code.proofs.NamingLemmas.{names-such, naming-block, once-named}
 use Rattle.wz_code.proofs.NumberLemmas.{Has, has-cases, has-first, has-second}
-
-other_number : (k : ℕ) → 0 < k → times k (0 ∷ []) ≡ 0
-other_number zero more = absurd (omega (arith, more))
-other_number (suc k) more = by (0 == suc k) refl where
-  by : (b : Bool) → (0 == suc k) ≡ b → cond b 1 0 + 0 ≡ 0
-  by true same = let e : 0 ≡ suc k = eqb-true 0 (suc k) same in absurd (omega (arith, e))
-  by false same = omega arith
 
 -- ---- one instruction
 
@@ -114,30 +108,6 @@ module _ (labels : List ℕ) (types : List ValType) (inner : ℕ → Code) (f : 
             has-first f (flat_map (λ k. referred_in (inner k)) (named instr)) (referred_in (expand (leaf_of labels types) inner code))
             (has-named k (named instr) (omega (arith, here)) h)
 
--- ---- which block names another
-
-pub all-named : (Is : ℕ → Type 0) (k : ℕ) (ks : List ℕ) → All Is ks → 1 ≤ times k ks → Is k
-all-named Is k [] every some = absurd (omega (arith, some))
-all-named Is k (n ∷ ks) every some = by (n == k) refl some (λ few. all-named Is k ks (All-tail Is n ks every) few) where
-  by : (b : Bool) → (n == k) ≡ b → 1 ≤ cond b 1 0 + times k ks → (1 ≤ times k ks → Is k) → Is k
-  by true same few later = subst Is (eqb-true n k same) (All-head Is n ks every)
-  by false same few later = later (omega (arith, few))
-
-pub names-such : (Is : ℕ → Type 0) (k : ℕ) (code : List Instr) → Names Is code → 1 ≤ namings k code → Is k
-names-such Is k [] names some = absurd (omega (arith, some))
-names-such Is k (instr ∷ code) names some = by (times k (named instr)) refl (λ few. names-such Is k code (All-tail (λ i. All Is (named i)) instr code names) few) where
-  by : (n : ℕ) → times k (named instr) ≡ n → (1 ≤ namings k code → Is k) → Is k
-  by zero none later = later (omega (arith, some, none))
-  by (suc n) here later = all-named Is k (named instr) (All-head (λ i. All Is (named i)) instr code names) (omega (arith, here))
-
--- a block that is named is named in one of the blocks
-pub naming-block : (k : ℕ) (blocks : Blocks) → 1 ≤ all_namings k blocks → (j : ℕ) × (1 ≤ namings k (block_at blocks j))
-naming-block k [] some = absurd (omega (arith, some))
-naming-block k (block ∷ blocks) some = by (namings k block) refl (λ few. naming-block k blocks few) where
-  by : (n : ℕ) → namings k block ≡ n → (1 ≤ all_namings k blocks → (j : ℕ) × (1 ≤ namings k (block_at blocks j))) → (j : ℕ) × (1 ≤ namings k (block_at (block ∷ blocks) j))
-  by zero none later = let found = later (omega (arith, some, none)) in (suc found.0, found.1)
-  by (suc n) here later = (0, omega (arith, here))
-
 -- ---- all blocks
 
 abbrev all_own : Blocks → List ℕ
@@ -187,19 +157,11 @@ module _ (body : BodyParts) (rule : BlockRule body) (f : ℕ) where
         | inr found ↦ in-blocks n found.0 (omega (arith, past, found.1)) found.2
       ]
 
-  once-named : (k : ℕ) → 0 < k → k < length body.blocks → 1 ≤ all_namings k body.blocks
-  once-named k more less =
-      let e = rule.once.each k in
-      let t = lt-ltb k (length body.blocks) less in
-      let other : times k (0 ∷ []) ≡ 0 = other_number k more in
-      let one = ap (λ (b : Bool). cond {A = ℕ} b 1 0) t in
-      omega (arith, e, other, one)
-
   to-root : (n k : ℕ) → k < n → k < length body.blocks → At k → At 0
   to-root zero k less there h = absurd (omega (arith, less))
   to-root (suc n) zero less there h = h
   to-root (suc n) (suc k) less there h =
-      let namer = naming-block (suc k) body.blocks (once-named (suc k) (omega arith) there) in
+      let namer = naming-block (suc k) body.blocks (once-named body.blocks (suc k) rule.once (omega arith) there) in
       let lower : namer.0 < suc k = names-such (λ j. namer.0 < j) (suc k) (block_at body.blocks namer.0) (rule.names_rise.each namer.0) namer.1 in
       to-root n namer.0 (omega (arith, less, lower)) (omega (arith, there, lower))
       (closed namer.0 (named-in-tree body.labels body.types (λ j. tree_of body j) f (suc k) (block_at body.blocks namer.0) namer.1 h))
