@@ -1,14 +1,13 @@
 -- How what a builder keeps is kept by each of its calls.
-use Rattle.std.proofs.Common.{◌≡◌, ℕ, zero, suc, ◌+◌, ◌<◌, ◌≤◌, List, [], ◌∷◌, ◌++◌, length, take, set, get_or, refl, sym, ap, ◌∙◌, arith, inl, inr}
+use Rattle.std.proofs.Common.{◌≡◌, ℕ, zero, suc, ◌+◌, ◌<◌, ◌≤◌, List, [], ◌∷◌, ◌++◌, length, take, set, get_or, refl, sym, ap, ◌∙◌, arith, inl, inr, All}
 use Rattle.std.proofs.lemmas.List.{append-nil, take_all, length-set, length-append, take-append-le, get_or-set_same, get_or-set_other, get_or_append_left, get_or_push}
+use Rattle.std.proofs.lemmas.List.Elements.{All-nil, All-push}
 use Rattle.std.proofs.lemmas.List.Sums.{sum_by-set, sum_by-append}
 use Rattle.std.proofs.lemmas.Bool.{cases_eq}
 use Rattle.std.specs.List.{sum_by}
 use Rattle.wz_code.specs.declared.instr.Instr.{Instr}
 use Rattle.wz_code.specs.BodyParts.{Blocks, block_at, put_instr}
-use Rattle.wz_code.specs.BlockRule.{Every}
 use Rattle.wz_code.specs.Layout.{instrs_in, blocks_by, blocks_of, sum_before, IsCounted, IsNoted}
-use Rattle.wz_code.proofs.TreeLemmas.{every-of, every-push}
 use Rattle.wz_code.proofs.LayoutLemmas.{sent_to-none, instrs_in-here, instrs_in-away, length-blocks_by, blocks_by-at, blocks_by-put, blocks_by-push}
 
 -- ---- one block, or several
@@ -64,7 +63,7 @@ counted-instr code settled added counts n instr extra h counted =
     let size : length (set counts n more) ≡ length counts = length-set counts n more in
     let longer : length (added ++ (n, instr) ∷ []) ≡ length added + 1 = length-append added ((n, instr) ∷ []) in
     record {
-      there = rw size (every-push (λ e. e.0 < length counts) added (n, instr) counted.there h);
+      there = rw size (All-push (λ e. e.0 < length counts) added (n, instr) counted.there h);
       each = λ m within. rw first (each m (omega (arith, size, within)));
       total = sum_before-all (set counts n more) ∙ omega (arith, sum_by-set (λ count. count) counts n more 0 h, sum_before-all counts, counted.total, longer);
       room = omega (arith, counted.room, longer, length-append code (extra ∷ []));
@@ -101,7 +100,7 @@ blocks-room code settled added counts extra h room =
 
 -- ---- a block more
 
-instrs_in-new : (first : List Instr) (added : List (ℕ × Instr)) (n : ℕ) → 0 < n → Every (λ e. e.0 < n) added → instrs_in first added n ≡ []
+instrs_in-new : (first : List Instr) (added : List (ℕ × Instr)) (n : ℕ) → 0 < n → All (λ e. e.0 < n) added → instrs_in first added n ≡ []
 instrs_in-new first added zero h there = absurd (omega arith)
 instrs_in-new first added (suc n) h there = sent_to-none (suc n) added there
 
@@ -120,7 +119,7 @@ pub counted-block : (code : List Instr) (settled : ℕ) (added : List (ℕ × In
 counted-block code settled added counts h counted =
     let size : length (counts ++ 0 ∷ []) ≡ length counts + 1 = length-append counts (0 ∷ []) in
     record {
-      there = every-of (λ e. e.0 < length counts) (λ e. e.0 < length (counts ++ 0 ∷ [])) (λ e lt. omega (arith, size, lt)) added counted.there;
+      there = λ k d less. omega (arith, size, counted.there k d less);
       each = λ n within. elim (cases_eq n (length counts)) [
         | inl last ↦ let e : get_or (counts ++ 0 ∷ []) n 0 ≡ 0 = get_or_push counts 0 0 n (sym last) in
             let none : instrs_in (take settled code) added n ≡ [] =
@@ -138,7 +137,7 @@ pub counted-first : (code : List Instr) (added : List (ℕ × Instr)) → length
 counted-first code [] none =
     let first : take (length code) code ≡ code = take_all (length code) code (omega arith) in
     record {
-      there = tt;
+      there = All-nil (λ (e : ℕ × Instr). e.0 < 2);
       each = λ n within. each n within;
       total = omega arith;
       room = omega arith;

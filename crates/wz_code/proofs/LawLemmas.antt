@@ -1,14 +1,15 @@
 -- The laws of trees, of bodies that are being built and of the tables, as terms. Proofs of other crates cite this file and no other one of these proofs.
-use Rattle.std.proofs.Common.{◌≡◌, ◌≢◌, ℕ, zero, suc, ◌+◌, ◌<◌, List, [], ◌∷◌, ◌++◌, Some, None, length, drop, refl, sym, ap, ◌∙◌, zero-add, cond, arith}
+use Rattle.std.proofs.Common.{◌≡◌, ◌≢◌, ℕ, zero, suc, ◌+◌, ◌<◌, List, [], ◌∷◌, ◌++◌, Some, None, length, drop, refl, sym, ap, ◌∙◌, zero-add, cond, arith, All}
 use Rattle.std.specs.Prelude.{slice_get, nat_lt}
 use Rattle.std.proofs.lemmas.List.{length-append, length-set, append-nil}
+use Rattle.std.proofs.lemmas.List.Elements.{All-nil, All-weaker}
 use Rattle.wz_types.specs.declared.types.ValType.{ValType}
 use Rattle.wz_code.specs.declared.instr.Instr.{Instr}
 use Rattle.wz_code.specs.BodyParts.{Blocks, block_at, put_instr}
 use Rattle.wz_code.specs.Trees.{Leaf, leaf_of, tree_in, code_in}
-use Rattle.wz_code.specs.BlockRule.{Every, named, times, NamesRise, InPools, PoolRule}
+use Rattle.wz_code.specs.BlockRule.{named, times, NamesRise, InPools, PoolRule}
 use Rattle.wz_code.specs.Laws.{TreeOfBlock, CodeAtStart, CodeAtInstr, CodeAtEnd, StartsBuilding, HeldIsThere, TakingInstr, TakingBlock, TakingLabel, TakingType, TakingPools, TakingLocals, CountsInstr, CountsBlock, CountsLabel, CountsType, CountsLocals, ShortByCount}
-pub use Rattle.wz_code.proofs.TreeLemmas.{every-of, joined_end, joined_assoc}
+pub use Rattle.wz_code.proofs.TreeLemmas.{joined_end, joined_assoc}
 pub use Rattle.wz_code.proofs.RuleLemmas.{times-append, times-here, not-times}
 pub use Rattle.wz_code.proofs.NumericLemmas.{names_operation, operation_named}
 pub use Rattle.wz_code.proofs.AccessLemmas.{names_access, access_named}
@@ -48,13 +49,13 @@ starts_building = record {
   once = record { each = λ k. zero-add (times k (0 ∷ [])) ∙ one k };
   pools = record { each = λ n. in_none n };
 } where
-  none : (n : ℕ) → Every (λ instr. Every (λ k. n < k) (named instr)) (block_at ([] ∷ []) n)
-  none zero = tt
-  none (suc n) = tt
+  none : (n : ℕ) → All (λ instr. All (λ k. n < k) (named instr)) (block_at ([] ∷ []) n)
+  none zero = All-nil (λ instr. All (λ k. 0 < k) (named instr))
+  none (suc n) = All-nil (λ instr. All (λ k. suc n < k) (named instr))
 
-  in_none : (n : ℕ) → Every (λ instr. InPools [] [] instr) (block_at ([] ∷ []) n)
-  in_none zero = tt
-  in_none (suc n) = tt
+  in_none : (n : ℕ) → All (λ instr. InPools [] [] instr) (block_at ([] ∷ []) n)
+  in_none zero = All-nil (λ instr. InPools [] [] instr)
+  in_none (suc n) = All-nil (λ instr. InPools [] [] instr)
 
   one : (k : ℕ) → times k (0 ∷ []) ≡ cond (nat_lt k 1) 1 0
   one k = grind arith
@@ -69,8 +70,8 @@ taking_instr body before number instr now building takes =
     let within = held-within body.blocks number before building.once takes.held in
     let not = held-not body.blocks number before building.once takes.held in
     let rises = rise-instr body.blocks number instr building.names_rise within takes.rises in
-    let apart : Every (λ k. k ≢ number) (named instr) =
-    every-of (λ k. number < k) (λ k. k ≢ number) (λ k h e. absurd (omega arith)) (named instr) takes.rises in
+    let apart : All (λ k. k ≢ number) (named instr) =
+    All-weaker (λ k. number < k) (λ k. k ≢ number) (λ k h e. absurd (omega arith)) (named instr) takes.rises in
     record {
       building = record {
         names_rise = rises;
@@ -102,9 +103,9 @@ pools_grow : (labels more : List ℕ) (types others : List ValType) (blocks : Bl
     → PoolRule (labels ++ more) (types ++ others) blocks
     × ((n : ℕ) → tree_in (λ i. leaf_of (labels ++ more) (types ++ others) i) blocks n ≡ tree_in (λ i. leaf_of labels types i) blocks n)
 pools_grow labels more types others blocks rise pools = (
-  record { each = λ n. every-of In In_more (λ i h. in-more labels more types others i h) (block_at blocks n) (pools.each n) },
+  record { each = λ n. All-weaker In In_more (λ i h. in-more labels more types others i h) (block_at blocks n) (pools.each n) },
   λ n. sym (tree-pools leaf leaf_more blocks rise
-      (λ m. every-of In (λ i. leaf i ≡ leaf_more i) (λ i h. leaf-more labels more types others i h) (block_at blocks m) (pools.each m)) n),
+      (λ m. All-weaker In (λ i. leaf i ≡ leaf_more i) (λ i h. leaf-more labels more types others i h) (block_at blocks m) (pools.each m)) n),
 ) where
   In : Instr → Type 0
   In i = InPools labels types i

@@ -4,6 +4,9 @@ pub mod LayoutLemmas
 pub mod BuildLemmas
 pub mod OrderLemmas
 pub mod LawLemmas
+pub mod NumberLemmas
+pub mod NamingLemmas
+pub mod ReferenceLemmas
 pub mod WalkLemmas
 pub mod FindLemmas
 pub mod NumericLemmas

@@ -1,29 +1,30 @@
 -- How the block rule is kept while a body is built.
-use Rattle.std.proofs.Common.{◌≡◌, ◌≢◌, ℕ, zero, suc, ◌+◌, ◌<◌, ◌≤◌, List, [], ◌∷◌, ◌++◌, Bool, true, false, cond, length, take, drop, set, refl, sym, ap, subst, ◌∙◌, arith, inl, inr}
+use Rattle.std.proofs.Common.{◌≡◌, ◌≢◌, ℕ, zero, suc, ◌+◌, ◌<◌, ◌≤◌, List, [], ◌∷◌, ◌++◌, Bool, true, false, cond, length, take, drop, set, refl, sym, ap, subst, ◌∙◌, arith, inl, inr, All}
 use Rattle.std.specs.Prelude.{nat_eq, nat_lt}
 use Rattle.std.proofs.lemmas.List.{length-set, length-append, length-drop, take-append-le, drop-append-le}
+use Rattle.std.proofs.lemmas.List.Elements.{All-nil, All-cons, All-push}
 use Rattle.std.proofs.lemmas.Bool.{eq-eqb, cases_eq, cases_lt, le-ltb}
 use Rattle.wz_types.specs.declared.types.ValType.{ValType}
 use Rattle.wz_code.specs.declared.instr.Instr.{Instr}
 use Rattle.wz_code.specs.declared.instr.Instr.TheVariants.{BrTable, SelectTyped}
 use Rattle.wz_code.specs.BodyParts.{Blocks, block_at, put_instr, instr_count}
 use Rattle.wz_code.specs.Trees.{TableBranch, TypedSelect, leaf_of}
-use Rattle.wz_code.specs.BlockRule.{Every, named, Names, times, namings, all_namings, NamesRise, EachOnce, NamesNot, InPools}
-use Rattle.wz_code.proofs.TreeLemmas.{every-push, at_same, at_other, at_new}
+use Rattle.wz_code.specs.BlockRule.{named, Names, times, namings, all_namings, NamesRise, EachOnce, NamesNot, InPools}
+use Rattle.wz_code.proofs.TreeLemmas.{at_same, at_other, at_new}
 
 -- ---- a fact of each block, where one block or the list of blocks grows
 
 -- a fact that each block's instructions have, also with one more in block b
-pub each-instr : (P : ℕ → Instr → Type 0) (blocks : Blocks) (b : ℕ) (instr : Instr) → b < length blocks → ((n : ℕ) → Every (λ i. P n i) (block_at blocks n)) → P b instr
-    → (n : ℕ) → Every (λ i. P n i) (block_at (put_instr blocks b instr) n)
+pub each-instr : (P : ℕ → Instr → Type 0) (blocks : Blocks) (b : ℕ) (instr : Instr) → b < length blocks → ((n : ℕ) → All (λ i. P n i) (block_at blocks n)) → P b instr
+    → (n : ℕ) → All (λ i. P n i) (block_at (put_instr blocks b instr) n)
 each-instr P blocks b instr within each this n = elim (cases_eq n b) [
   | inl same ↦ let e = at_same blocks b (block_at blocks b ++ instr ∷ []) within in
-      subst (λ (m : ℕ). Every (λ i. P m i) (block_at (put_instr blocks b instr) m)) (sym same) (rw e (every-push (λ i. P b i) (block_at blocks b) instr (each b) this))
+      subst (λ (m : ℕ). All (λ i. P m i) (block_at (put_instr blocks b instr) m)) (sym same) (rw e (All-push (λ i. P b i) (block_at blocks b) instr (each b) this))
   | inr other ↦ let e = at_other blocks b n (block_at blocks b ++ instr ∷ []) other in rw e (each n)
 ]
 
-pub rise-instr : (blocks : Blocks) (b : ℕ) (instr : Instr) → NamesRise blocks → b < length blocks → Every (λ k. b < k) (named instr) → NamesRise (put_instr blocks b instr)
-rise-instr blocks b instr rise within behind = record { each = λ n. each-instr (λ m i. Every (λ k. m < k) (named i)) blocks b instr within (λ m. rise.each m) behind n }
+pub rise-instr : (blocks : Blocks) (b : ℕ) (instr : Instr) → NamesRise blocks → b < length blocks → All (λ k. b < k) (named instr) → NamesRise (put_instr blocks b instr)
+rise-instr blocks b instr rise within behind = record { each = λ n. each-instr (λ m i. All (λ k. m < k) (named i)) blocks b instr within (λ m. rise.each m) behind n }
 
 pub rise-block : (blocks : Blocks) → NamesRise blocks → NamesRise (blocks ++ [] ∷ [])
 rise-block blocks rise = record { each = λ n. rw (at_new blocks n) (rise.each n) }
@@ -79,13 +80,16 @@ namings-le k (b ∷ bs) (suc n) = omega (arith, namings-le k bs n)
 
 -- ---- what is held back
 
-pub not-times : (b : ℕ) (ks : List ℕ) → times b ks ≡ 0 → Every (λ k. k ≢ b) ks
-not-times b [] h = tt
-not-times b (k ∷ ks) h = (λ e. let t = eq-eqb k b e in let g = rw t at h in absurd (omega (arith, g)), not-times b ks (omega arith))
+pub not-times : (b : ℕ) (ks : List ℕ) → times b ks ≡ 0 → All (λ k. k ≢ b) ks
+not-times b [] h = All-nil (λ k. k ≢ b)
+not-times b (k ∷ ks) h =
+    let other : k ≢ b = λ e. let t = eq-eqb k b e in let g = rw t at h in absurd (omega (arith, g)) in
+    All-cons (λ k. k ≢ b) k ks other (not-times b ks (omega arith))
 
 not-namings : (b : ℕ) (code : List Instr) → namings b code ≡ 0 → Names (λ k. k ≢ b) code
-not-namings b [] h = tt
-not-namings b (i ∷ rest) h = (not-times b (named i) (omega arith), not-namings b rest (omega arith))
+not-namings b [] h = All-nil (λ i. All (λ k. k ≢ b) (named i))
+not-namings b (i ∷ rest) h =
+    All-cons (λ i. All (λ k. k ≢ b) (named i)) i rest (not-times b (named i) (omega arith)) (not-namings b rest (omega arith))
 
 at_most_one : (t : Bool) → cond t 1 0 ≤ 1
 at_most_one true = omega arith

@@ -1,47 +1,40 @@
 -- Blocks as trees, and what more blocks, instructions, labels and types change of them.
-use Rattle.std.proofs.Common.{◌≡◌, ◌≢◌, ℕ, zero, suc, ◌+◌, ◌<◌, ◌≤◌, List, [], ◌∷◌, ◌++◌, Option, Some, None, length, set, refl, sym, ap, ◌∙◌, arith}
+use Rattle.std.proofs.Common.{◌≡◌, ◌≢◌, ℕ, zero, suc, ◌+◌, ◌<◌, ◌≤◌, List, [], ◌∷◌, ◌++◌, Option, Some, None, length, set, refl, sym, ap, ◌∙◌, arith, All}
 use Rattle.std.proofs.lemmas.List.{get_or-set_same, get_or-set_other}
+use Rattle.std.proofs.lemmas.List.Elements.{All-head, All-tail, All-push}
 use Rattle.std.proofs.lemmas.Option.{unwrap_or-slice_get}
 use Rattle.wz_code.specs.declared.instr.Instr.{Instr}
 use Rattle.wz_code.specs.declared.instr.Instr.TheVariants.{Block, Loop, If}
 use Rattle.wz_code.specs.BodyParts.{Blocks, block_at, put_instr}
 use Rattle.wz_code.specs.Trees.{Leaf, Code, End, Then, InBlock, InLoop, InIf, joined, arm_of, headed, expand, tree_by, tree_in}
-use Rattle.wz_code.specs.BlockRule.{Every, arm_named, named, Names, NamesRise, NamesNot}
-
--- ---- lists of facts
-
-pub every-of : {A : Type 0} (P Q : A → Type 0) → ((x : A) → P x → Q x) → (xs : List A) → Every P xs → Every Q xs
-every-of P Q f [] h = tt
-every-of P Q f (x ∷ xs) h = (f x h.0, every-of P Q f xs h.1)
-
-pub every-all : {A : Type 0} (P : A → Type 0) → ((x : A) → P x) → (xs : List A) → Every P xs
-every-all P f [] = tt
-every-all P f (x ∷ xs) = (f x, every-all P f xs)
-
-pub every-push : {A : Type 0} (P : A → Type 0) (xs : List A) (x : A) → Every P xs → P x → Every P (xs ++ x ∷ [])
-every-push P [] x h p = (p, tt)
-every-push P (y ∷ ys) x h p = (h.0, every-push P ys x h.1 p)
+use Rattle.wz_code.specs.BlockRule.{arm_named, named, Names, NamesRise, NamesNot}
 
 -- ---- code of some instructions
 
-arm-same : (f g : ℕ → Code) (P : ℕ → Type 0) → ((k : ℕ) → P k → f k ≡ g k) → (arm : Option ℕ) → Every P (arm_named arm) → arm_of f arm ≡ arm_of g arm
+arm-same : (f g : ℕ → Code) (P : ℕ → Type 0) → ((k : ℕ) → P k → f k ≡ g k) → (arm : Option ℕ) → All P (arm_named arm) → arm_of f arm ≡ arm_of g arm
 arm-same f g P same None h = refl
-arm-same f g P same (Some body) h = same body h.0
+arm-same f g P same (Some body) h = same body (All-head P body [] h)
 
-headed-same : (leaf other : Instr → Leaf) (f g : ℕ → Code) (P : ℕ → Type 0) → ((k : ℕ) → P k → f k ≡ g k) → (instr : Instr) → leaf instr ≡ other instr → Every P (named instr)
+headed-same : (leaf other : Instr → Leaf) (f g : ℕ → Code) (P : ℕ → Type 0) → ((k : ℕ) → P k → f k ≡ g k) → (instr : Instr) → leaf instr ≡ other instr → All P (named instr)
     → (rest more : Code) → rest ≡ more → headed leaf f instr rest ≡ headed other g instr more
-headed-same leaf other f g P same (Block shape body) e h rest more r = cc (same body h.0, r)
-headed-same leaf other f g P same (Loop shape body) e h rest more r = cc (same body h.0, r)
-headed-same leaf other f g P same (If shape first second) e h rest more r = cc (same first h.0, arm-same f g P same second h.1, r)
+headed-same leaf other f g P same (Block shape body) e h rest more r = cc (same body (All-head P body [] h), r)
+headed-same leaf other f g P same (Loop shape body) e h rest more r = cc (same body (All-head P body [] h), r)
+headed-same leaf other f g P same (If shape first second) e h rest more r =
+    let one = same first (All-head P first (arm_named second) h) in
+    let other = arm-same f g P same second (All-tail P first (arm_named second) h) in
+    cc (one, other, r)
 headed-same leaf other f g P same instr e h rest more r = cc (e, r)
 
 -- two readings agree on instructions whose leaves and named blocks they read alike
 pub expand-same : (leaf other : Instr → Leaf) (f g : ℕ → Code) (P : ℕ → Type 0) → ((k : ℕ) → P k → f k ≡ g k)
-    → (code : List Instr) → Every (λ instr. leaf instr ≡ other instr) code → Names P code
+    → (code : List Instr) → All (λ instr. leaf instr ≡ other instr) code → Names P code
     → expand leaf f code ≡ expand other g code
 expand-same leaf other f g P same [] e h = refl
 expand-same leaf other f g P same (instr ∷ rest) e h =
-    headed-same leaf other f g P same instr e.0 h.0 (expand leaf f rest) (expand other g rest) (expand-same leaf other f g P same rest e.1 h.1)
+    let Same : Instr → Type 0 = λ i. leaf i ≡ other i in
+    let Such : Instr → Type 0 = λ i. All P (named i) in
+    headed-same leaf other f g P same instr (All-head Same instr rest e) (All-head Such instr rest h) (expand leaf f rest) (expand other g rest)
+    (expand-same leaf other f g P same rest (All-tail Same instr rest e) (All-tail Such instr rest h))
 
 headed-joined : (leaf : Instr → Leaf) (f : ℕ → Code) (instr : Instr) (rest more : Code) → headed leaf f instr (joined rest more) ≡ joined (headed leaf f instr rest) more
 headed-joined leaf f (Block shape body) rest more = refl
@@ -75,8 +68,8 @@ block_at-past [] n h = refl
 block_at-past (b ∷ bs) zero h = absurd (omega arith)
 block_at-past (b ∷ bs) (suc n) h = block_at-past bs n (omega arith)
 
-same_leaves : (leaf : Instr → Leaf) (code : List Instr) → Every (λ instr. leaf instr ≡ leaf instr) code
-same_leaves leaf code = every-all (λ instr. leaf instr ≡ leaf instr) (λ instr. refl) code
+same_leaves : (leaf : Instr → Leaf) (code : List Instr) → All (λ instr. leaf instr ≡ leaf instr) code
+same_leaves leaf code = λ k d less. refl
 
 -- from the number of blocks on, more depth changes nothing
 tree_by-same : (leaf : Instr → Leaf) (blocks : Blocks) → NamesRise blocks → (f g n : ℕ) → length blocks ≤ f + n
@@ -102,7 +95,7 @@ pub tree_in-past : (leaf : Instr → Leaf) (blocks : Blocks) → NamesRise block
 tree_in-past leaf blocks rise n h = tree_in-block leaf blocks rise n ∙ ap (λ (code : List Instr). expand leaf (λ k. tree_in leaf blocks k) code) (block_at-past blocks n h)
 
 tree_by-agree : (leaf other : Instr → Leaf) (xs ys : Blocks) (Free : ℕ → Type 0) → ((n : ℕ) → Free n → block_at xs n ≡ block_at ys n)
-    → ((n : ℕ) → Free n → Every (λ instr. leaf instr ≡ other instr) (block_at xs n))
+    → ((n : ℕ) → Free n → All (λ instr. leaf instr ≡ other instr) (block_at xs n))
     → ((n : ℕ) → Free n → Names Free (block_at xs n)) → (depth n : ℕ) → Free n → tree_by depth leaf xs n ≡ tree_by depth other ys n
 unfolding tree_by
 tree_by-agree leaf other xs ys Free same leaves names zero n h = refl
@@ -113,7 +106,7 @@ tree_by-agree leaf other xs ys Free same leaves names (suc depth) n h =
 
 -- blocks that are the same, are read alike and name only such blocks, are the same trees
 pub tree_in-agree : (leaf other : Instr → Leaf) (xs ys : Blocks) (Free : ℕ → Type 0) → NamesRise xs → NamesRise ys → ((n : ℕ) → Free n → block_at xs n ≡ block_at ys n)
-    → ((n : ℕ) → Free n → Every (λ instr. leaf instr ≡ other instr) (block_at xs n)) → ((n : ℕ) → Free n → Names Free (block_at xs n))
+    → ((n : ℕ) → Free n → All (λ instr. leaf instr ≡ other instr) (block_at xs n)) → ((n : ℕ) → Free n → Names Free (block_at xs n))
     → (n : ℕ) → Free n → tree_in leaf xs n ≡ tree_in other ys n
 unfolding tree_in
 tree_in-agree leaf other xs ys Free rise_xs rise_ys same leaves names n h =
@@ -137,7 +130,7 @@ tree-other leaf blocks b instr rise rises not n other =
 
 -- the block has the instruction at its end, read by what was there before
 pub tree-same : (leaf : Instr → Leaf) (blocks : Blocks) (b : ℕ) (instr : Instr) → NamesRise blocks → NamesRise (put_instr blocks b instr)
-    → NamesNot blocks b → b < length blocks → Every (λ k. k ≢ b) (named instr)
+    → NamesNot blocks b → b < length blocks → All (λ k. k ≢ b) (named instr)
     → tree_in leaf (put_instr blocks b instr) b ≡ joined (tree_in leaf blocks b) (headed leaf (λ k. tree_in leaf blocks k) instr End)
 tree-same leaf blocks b instr rise rises not within others =
     let new = put_instr blocks b instr in
@@ -147,7 +140,7 @@ tree-same leaf blocks b instr rise rises not within others =
     ap (λ (x : List Instr). expand leaf (λ k. tree_in leaf new k) x) (at_same blocks b grown within) in
     let old : expand leaf (λ k. tree_in leaf new k) grown ≡ expand leaf (λ k. tree_in leaf blocks k) grown =
     expand-same leaf leaf (λ k. tree_in leaf new k) (λ k. tree_in leaf blocks k) (λ k. k ≢ b) (λ k h. tree-other leaf blocks b instr rise rises not k h) grown
-    (same_leaves leaf grown) (every-push (λ i. Every (λ k. k ≢ b) (named i)) (block_at blocks b) instr (not.each b) others) in
+    (same_leaves leaf grown) (All-push (λ i. All (λ k. k ≢ b) (named i)) (block_at blocks b) instr (not.each b) others) in
     let last : Code = headed leaf (λ k. tree_in leaf blocks k) instr End in
     let front : Code = expand leaf (λ k. tree_in leaf blocks k) (block_at blocks b) in
     let parts : expand leaf (λ k. tree_in leaf blocks k) grown ≡ joined front last =
@@ -167,13 +160,13 @@ at_new (b ∷ bs) (suc n) = at_new bs n
 pub tree-block : (leaf : Instr → Leaf) (blocks : Blocks) → NamesRise blocks → NamesRise (blocks ++ [] ∷ []) → (n : ℕ) → tree_in leaf (blocks ++ [] ∷ []) n ≡ tree_in leaf blocks n
 tree-block leaf blocks rise rises n =
     sym (tree_in-agree leaf leaf blocks (blocks ++ [] ∷ []) (λ _. Unit {0}) rise rises (λ m h. sym (at_new blocks m)) (λ m h. same_leaves leaf (block_at blocks m))
-    (λ m h. every-all (λ i. Every (λ _. Unit {0}) (named i)) (λ i. every-all (λ _. Unit {0}) (λ _. tt) (named i)) (block_at blocks m)) n tt)
+    (λ m h k d less j e below. tt) n tt)
 
 -- ---- other pools
 
 -- where each leaf is read as before, so is each tree
-pub tree-pools : (leaf other : Instr → Leaf) (blocks : Blocks) → NamesRise blocks → ((n : ℕ) → Every (λ instr. leaf instr ≡ other instr) (block_at blocks n))
+pub tree-pools : (leaf other : Instr → Leaf) (blocks : Blocks) → NamesRise blocks → ((n : ℕ) → All (λ instr. leaf instr ≡ other instr) (block_at blocks n))
     → (n : ℕ) → tree_in leaf blocks n ≡ tree_in other blocks n
 tree-pools leaf other blocks rise leaves n =
     tree_in-agree leaf other blocks blocks (λ _. Unit {0}) rise rise (λ m h. refl) (λ m h. leaves m)
-    (λ m h. every-all (λ i. Every (λ _. Unit {0}) (named i)) (λ i. every-all (λ _. Unit {0}) (λ _. tt) (named i)) (block_at blocks m)) n tt
+    (λ m h k d less j e below. tt) n tt

@@ -1,14 +1,9 @@
 -- When numbered blocks and pools stand for a tree of instructions (sections 2.4.8 and 2.4.9 of the Core Specification).
-use Rattle.std.specs.Prelude.{◌≡◌, ◌≢◌, ℕ, ◌+◌, ◌-◌, ◌^◌, ◌<◌, ◌≤◌, nat_lt, ◌==◌, if◌then◌else◌, List, [], ◌∷◌, length, Option, Some, None}
+use Rattle.std.specs.Prelude.{◌≡◌, ◌≢◌, ℕ, ◌+◌, ◌-◌, ◌^◌, ◌<◌, ◌≤◌, nat_lt, ◌==◌, if◌then◌else◌, List, [], ◌∷◌, length, Option, Some, None, All}
 use Rattle.wz_types.specs.declared.types.ValType.{ValType}
 use Rattle.wz_code.specs.declared.instr.Instr.{Instr}
 use Rattle.wz_code.specs.declared.instr.Instr.TheVariants.{Block, Loop, If, BrTable, SelectTyped}
 use Rattle.wz_code.specs.BodyParts.{Blocks, block_at, BodyParts}
-
--- each item of a list is such
-abbrev pub Every : {A : Type 0} → (A → Type 0) → List A → Type 0
-Every Is [] = Unit {0}
-Every Is (item ∷ items) = Is item × Every Is items
 
 -- ---- which blocks are named, and how often
 
@@ -25,7 +20,7 @@ named instr = []
 
 -- each block that these instructions name is such
 abbrev pub Names : (ℕ → Type 0) → List Instr → Type 0
-Names Is code = Every (λ instr. Every Is (named instr)) code
+Names Is code = All (λ instr. All Is (named instr)) code
 
 -- how often a list has this number
 abbrev pub times : ℕ → List ℕ → ℕ
@@ -63,7 +58,7 @@ InPools labels types (SelectTyped first count) = first + count ≤ length types
 InPools labels types instr = Unit {0}
 
 pub record PoolRule (labels : List ℕ) (types : List ValType) (blocks : Blocks) : Type 0 where
-  pub each : (number : ℕ) → Every (λ instr. InPools labels types instr) (block_at blocks number)
+  pub each : (number : ℕ) → All (λ instr. InPools labels types instr) (block_at blocks number)
 
 -- ---- the rule
 

@@ -1,10 +1,10 @@
 -- What holds of trees, and of a body while it is built (sections 2.4.8 and 2.4.9 of the Core Specification).
-use Rattle.std.specs.Prelude.{◌≡◌, ◌≢◌, ℕ, ◌+◌, ◌-◌, ◌^◌, ◌<◌, ◌≤◌, List, [], ◌∷◌, ◌++◌, length, Some, None, slice_get}
+use Rattle.std.specs.Prelude.{◌≡◌, ◌≢◌, ℕ, ◌+◌, ◌-◌, ◌^◌, ◌<◌, ◌≤◌, List, [], ◌∷◌, ◌++◌, length, Some, None, slice_get, All}
 use Rattle.wz_types.specs.declared.types.ValType.{ValType}
 use Rattle.wz_code.specs.declared.instr.Instr.{Instr}
 use Rattle.wz_code.specs.BodyParts.{BodyParts, block_at, no_parts, with_locals, with_instr, with_block, with_label, with_type, with_pools, item_count}
 use Rattle.wz_code.specs.Trees.{Code, End, joined, tree_of, code_in, code_from, headed_in}
-use Rattle.wz_code.specs.BlockRule.{Every, named, times, NamesRise, InPools, IsBuilding, IsShort}
+use Rattle.wz_code.specs.BlockRule.{named, times, NamesRise, InPools, IsBuilding, IsShort}
 
 -- ---- the tree of a block, and the code at a place of it
 
@@ -40,7 +40,7 @@ TimesHere = (number : ℕ) (numbers : List ℕ) → times number (number ∷ num
 
 -- a list in which it never stands has other numbers alone
 abbrev pub NotTimes : Type 0
-NotTimes = (number : ℕ) (numbers : List ℕ) → times number numbers ≡ 0 → Every (λ n. n ≢ number) numbers
+NotTimes = (number : ℕ) (numbers : List ℕ) → times number numbers ≡ 0 → All (λ n. n ≢ number) numbers
 
 -- ---- a body that is being built
 
@@ -55,7 +55,7 @@ HeldIsThere = (body : BodyParts) (held : List ℕ) (number : ℕ) → IsBuilding
 -- The blocks that it names were held back before, and now the others are.
 pub record TakesInstr (body : BodyParts) (before : List ℕ) (number : ℕ) (instr : Instr) (now : List ℕ) : Type 0 where
   pub held : 1 ≤ times number before
-  pub rises : Every (λ k. number < k) (named instr)
+  pub rises : All (λ k. number < k) (named instr)
   pub pools : InPools body.labels body.types instr
   pub moved : (k : ℕ) → times k (named instr) + times k now ≡ times k before
 

@@ -3,6 +3,7 @@ pub mod Accesses
 pub mod BodyParts
 pub mod Trees
 pub mod BlockRule
+pub mod References
 pub mod Walking
 pub mod Laws
 pub mod Layout

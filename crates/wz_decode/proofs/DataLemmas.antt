@@ -2,27 +2,17 @@
 use Rattle.std.proofs.Common.{◌≡◌, ℕ, zero, suc, ◌+◌, ◌≤◌, ◌<◌, List, [], ◌∷◌, length, map, take, Option, Some, None, Bool, true, false, refl, sym, ap, subst, ◌∙◌, arith, inl, inr}
 use Rattle.std.specs.Prelude.{◌≢◌, ◌||◌, ◌⊎◌, ◌==◌}
 use Rattle.std.specs.List.{list_any}
-use Rattle.std.proofs.lemmas.Bool.{cases_Bool, eqb-true, eq-eqb, ne_eqb, lt-ltb}
+use Rattle.std.proofs.lemmas.Bool.{cases_Bool, eqb-true, eq-eqb, or_cases, or_left, or_right}
 use Rattle.wz_types.specs.declared.types.ValType.{ValType}
 use Rattle.wz_code.specs.declared.instr.Instr.{Instr}
 use Rattle.wz_code.specs.declared.instr.Instr.TheVariants as instr
 use Rattle.wz_code.specs.BodyParts.{Blocks, block_at, BodyParts}
 use Rattle.wz_code.specs.Trees.{Leaf, leaf_of, Code, arm_of, headed, expand, tree_by, tree_in, tree_of}
-use Rattle.wz_code.specs.BlockRule.{Every, named, arm_named, times, namings, all_namings, NamesRise, EachOnce, IsBody}
+use Rattle.wz_code.specs.BlockRule.{named, arm_named, times, namings, NamesRise, EachOnce, IsBody}
 use Rattle.wz_code.proofs.LawLemmas.{tree_of_block}
+use Rattle.wz_code.proofs.NamingLemmas.{names-such, naming-block, once-named}
 use Rattle.wz_module.specs.Functions.{body_tree_of}
 use Rattle.wz_decode.specs.CountRules.{names_data, code_names_data}
-
-or_left : (a b : Bool) → a ≡ true → (a || b) ≡ true
-or_left a b e = rw e refl
-
-or_right : (a b : Bool) → b ≡ true → (a || b) ≡ true
-or_right true b e = refl
-or_right false b e = e
-
-or_cases : (a b : Bool) → (a || b) ≡ true → (a ≡ true) ⊎ (b ≡ true)
-or_cases true b e = inl refl
-or_cases false b e = inr e
 
 -- the rest of a block is part of its code
 tail_names : (leaf : Instr → Leaf) (inner : ℕ → Code) (i : Instr) (rest : Code) → code_names_data rest ≡ true → code_names_data (headed leaf inner i rest) ≡ true
@@ -32,12 +22,14 @@ tail_names leaf inner (instr.If shape one two) rest e = or_right _ _ (or_right _
 tail_names leaf inner i rest e = or_right _ _ e
 
 -- an instruction that names one
-head_names : (labels : List ℕ) (types : List ValType) (inner : ℕ → Code) (i : Instr) (rest : Code) → names_data i ≡ true → code_names_data (headed (λ i. leaf_of labels types i) inner i rest) ≡ true
+head_names : (labels : List ℕ) (types : List ValType) (inner : ℕ → Code) (i : Instr) (rest : Code) → names_data i ≡ true
+    → code_names_data (headed (λ i. leaf_of labels types i) inner i rest) ≡ true
 head_names labels types inner (instr.MemoryInit segment memory) rest e = refl
 head_names labels types inner (instr.DataDrop segment) rest e = refl
 head_names labels types inner i rest e = absurd cc
 
-pub block_names : (labels : List ℕ) (types : List ValType) (inner : ℕ → Code) (code : List Instr) → list_any names_data code ≡ true → code_names_data (expand (λ i. leaf_of labels types i) inner code) ≡ true
+pub block_names : (labels : List ℕ) (types : List ValType) (inner : ℕ → Code) (code : List Instr) → list_any names_data code ≡ true
+    → code_names_data (expand (λ i. leaf_of labels types i) inner code) ≡ true
 block_names labels types inner [] e = absurd cc
 block_names labels types inner (i ∷ rest) e = elim (or_cases (names_data i) (list_any names_data rest) e) [
   | inl here ↦ head_names labels types inner i _ here
@@ -56,11 +48,13 @@ later_named k n ks h = omega (arith, h)
 abbrev HeadCases : (ℕ → Code) → Instr → Code → Type 0
 HeadCases inner i rest = (names_data i ≡ true) ⊎ (((k : ℕ) × (1 ≤ times k (named i)) × (code_names_data (inner k) ≡ true)) ⊎ (code_names_data rest ≡ true))
 
-arm_cases : (inner : ℕ → Code) (one : ℕ) (two : Option ℕ) → code_names_data (arm_of inner two) ≡ true → (k : ℕ) × (1 ≤ times k (one ∷ arm_named two)) × (code_names_data (inner k) ≡ true)
+arm_cases : (inner : ℕ → Code) (one : ℕ) (two : Option ℕ) → code_names_data (arm_of inner two) ≡ true
+    → (k : ℕ) × (1 ≤ times k (one ∷ arm_named two)) × (code_names_data (inner k) ≡ true)
 arm_cases inner one None e = absurd cc
 arm_cases inner one (Some k) e = (k, later_named k one (k ∷ []) (self_named k []), e)
 
-head_cases : (labels : List ℕ) (types : List ValType) (inner : ℕ → Code) (i : Instr) (rest : Code) → code_names_data (headed (λ i. leaf_of labels types i) inner i rest) ≡ true → HeadCases inner i rest
+head_cases : (labels : List ℕ) (types : List ValType) (inner : ℕ → Code) (i : Instr) (rest : Code)
+    → code_names_data (headed (λ i. leaf_of labels types i) inner i rest) ≡ true → HeadCases inner i rest
 head_cases labels types inner (instr.Block shape body) rest e = elim (or_cases _ _ e) [ inl h ↦ inr (inl (body, self_named body [], h)) | inr h ↦ inr (inr h) ]
 head_cases labels types inner (instr.Loop shape body) rest e = elim (or_cases _ _ e) [ inl h ↦ inr (inl (body, self_named body [], h)) | inr h ↦ inr (inr h) ]
 head_cases labels types inner (instr.If shape one two) rest e = elim (or_cases _ _ e) [
@@ -72,7 +66,8 @@ head_cases labels types inner i rest e = elim (or_cases _ _ e) [ inl h ↦ inl h
 abbrev CodeCases : (ℕ → Code) → List Instr → Type 0
 CodeCases inner code = (list_any names_data code ≡ true) ⊎ ((k : ℕ) × (1 ≤ namings k code) × (code_names_data (inner k) ≡ true))
 
-code_cases : (labels : List ℕ) (types : List ValType) (inner : ℕ → Code) (code : List Instr) → code_names_data (expand (λ i. leaf_of labels types i) inner code) ≡ true → CodeCases inner code
+code_cases : (labels : List ℕ) (types : List ValType) (inner : ℕ → Code) (code : List Instr)
+    → code_names_data (expand (λ i. leaf_of labels types i) inner code) ≡ true → CodeCases inner code
 code_cases labels types inner [] e = absurd cc
 code_cases labels types inner (i ∷ rest) e = elim (head_cases labels types inner i _ e) [
   | inl here ↦ inl (or_left _ _ here)
@@ -83,7 +78,8 @@ code_cases labels types inner (i ∷ rest) e = elim (head_cases labels types inn
   ]
 ]
 
-by_depth : (depth : ℕ) (labels : List ℕ) (types : List ValType) (blocks : Blocks) (n : ℕ) → code_names_data (tree_by depth (λ i. leaf_of labels types i) blocks n) ≡ true → (m : ℕ) × (list_any names_data (block_at blocks m) ≡ true)
+by_depth : (depth : ℕ) (labels : List ℕ) (types : List ValType) (blocks : Blocks) (n : ℕ)
+    → code_names_data (tree_by depth (λ i. leaf_of labels types i) blocks n) ≡ true → (m : ℕ) × (list_any names_data (block_at blocks m) ≡ true)
 unfolding tree_by
 by_depth zero labels types blocks n e = absurd cc
 by_depth (suc depth) labels types blocks n e = elim (code_cases labels types (λ k. tree_by depth (λ i. leaf_of labels types i) blocks k) (block_at blocks n) e) [
@@ -103,20 +99,9 @@ first_of_two k n ks h = elim (cases_Bool (n == k)) [
   | inr other ↦ inr (let e : times k (n ∷ ks) ≡ 0 + times k ks = rw other refl in omega (arith, e, h))
 ]
 
-is_named : (P : ℕ → Type 0) (k : ℕ) (ks : List ℕ) → Every P ks → 1 ≤ times k ks → P k
-is_named P k [] every h = absurd (omega (arith, h))
-is_named P k (n ∷ ks) every h = elim (first_of_two k n ks h) [ inl same ↦ subst P same every.0 | inr more ↦ is_named P k ks every.1 more ]
-
 either_some : (a b : ℕ) → 1 ≤ a + b → (1 ≤ a) ⊎ (1 ≤ b)
 either_some zero b h = inr (omega (arith, h))
 either_some (suc a) b h = inl (omega arith)
-
-above : (n k : ℕ) (code : List Instr) → Every (λ i. Every (λ k. n < k) (named i)) code → 1 ≤ namings k code → n < k
-above n k [] every h = absurd (omega (arith, h))
-above n k (i ∷ rest) every h = elim (either_some (times k (named i)) (namings k rest) h) [
-  | inl here ↦ is_named (λ m. n < m) k (named i) every.0 here
-  | inr there ↦ above n k rest every.1 there
-]
 
 same_inner : (inner : ℕ → Code) (n k : ℕ) → n ≡ k → code_names_data (inner k) ≡ true → code_names_data (inner n) ≡ true
 same_inner inner n k same e = subst (λ (m : ℕ). code_names_data (inner m) ≡ true) (sym same) e
@@ -126,51 +111,46 @@ arm_inner inner k None h e = absurd (omega (arith, h))
 arm_inner inner k (Some n) h e = elim (first_of_two k n [] h) [ inl same ↦ same_inner inner n k same e | inr none ↦ absurd (omega (arith, none)) ]
 
 -- an instruction that names a block in which a data segment is named
-head_inner : (leaf : Instr → Leaf) (inner : ℕ → Code) (k : ℕ) (i : Instr) (rest : Code) → 1 ≤ times k (named i) → code_names_data (inner k) ≡ true → code_names_data (headed leaf inner i rest) ≡ true
-head_inner leaf inner k (instr.Block shape body) rest h e = elim (first_of_two k body [] h) [ inl same ↦ or_left _ _ (same_inner inner body k same e) | inr none ↦ absurd (omega (arith, none)) ]
-head_inner leaf inner k (instr.Loop shape body) rest h e = elim (first_of_two k body [] h) [ inl same ↦ or_left _ _ (same_inner inner body k same e) | inr none ↦ absurd (omega (arith, none)) ]
+head_inner : (leaf : Instr → Leaf) (inner : ℕ → Code) (k : ℕ) (i : Instr) (rest : Code) → 1 ≤ times k (named i) → code_names_data (inner k) ≡ true
+    → code_names_data (headed leaf inner i rest) ≡ true
+head_inner leaf inner k (instr.Block shape body) rest h e = elim (first_of_two k body [] h) [
+  | inl same ↦ or_left _ _ (same_inner inner body k same e)
+  | inr none ↦ absurd (omega (arith, none))
+]
+head_inner leaf inner k (instr.Loop shape body) rest h e = elim (first_of_two k body [] h) [
+  | inl same ↦ or_left _ _ (same_inner inner body k same e)
+  | inr none ↦ absurd (omega (arith, none))
+]
 head_inner leaf inner k (instr.If shape one two) rest h e = elim (first_of_two k one (arm_named two) h) [
   | inl same ↦ or_left _ _ (same_inner inner one k same e)
   | inr more ↦ or_right _ _ (or_left _ _ (arm_inner inner k two more e))
 ]
 head_inner leaf inner k i rest h e = absurd (omega (arith, h))
 
-code_inner : (leaf : Instr → Leaf) (inner : ℕ → Code) (k : ℕ) (code : List Instr) → 1 ≤ namings k code → code_names_data (inner k) ≡ true → code_names_data (expand leaf inner code) ≡ true
+code_inner : (leaf : Instr → Leaf) (inner : ℕ → Code) (k : ℕ) (code : List Instr) → 1 ≤ namings k code → code_names_data (inner k) ≡ true
+    → code_names_data (expand leaf inner code) ≡ true
 code_inner leaf inner k [] h e = absurd (omega (arith, h))
 code_inner leaf inner k (i ∷ rest) h e = elim (either_some (times k (named i)) (namings k rest) h) [
   | inl here ↦ head_inner leaf inner k i _ here e
   | inr there ↦ tail_names leaf inner i _ (code_inner leaf inner k rest there e)
 ]
 
-some_naming : (k : ℕ) (blocks : Blocks) → 1 ≤ all_namings k blocks → (j : ℕ) × (1 ≤ namings k (block_at blocks j))
-some_naming k [] h = absurd (omega (arith, h))
-some_naming k (block ∷ blocks) h = elim (either_some (namings k block) (all_namings k blocks) h) [
-  | inl here ↦ (0, here)
-  | inr there ↦ let j = some_naming k blocks there in (suc j.0, j.1)
-]
-
--- a block but the body itself is named by another
-once_named : (blocks : Blocks) (k : ℕ) → EachOnce blocks (0 ∷ []) → k ≢ 0 → k < length blocks → 1 ≤ all_namings k blocks
-once_named blocks k once some within =
-    let there = lt-ltb k (length blocks) within in
-    let other : (0 == k) ≡ false = ne_eqb 0 k (λ e. some (sym e)) in
-    let each : all_namings k blocks + times k (0 ∷ []) ≡ 1 = once.each k ∙ (rw there refl) in
-    let none : times k (0 ∷ []) ≡ 0 = rw other refl in
-    omega (arith, each, none)
-
-climb : (fuel k : ℕ) (body : BodyParts) → NamesRise body.blocks → EachOnce body.blocks (0 ∷ []) → k < fuel → k < length body.blocks → code_names_data (tree_of body k) ≡ true → code_names_data (tree_of body 0) ≡ true
+climb : (fuel k : ℕ) (body : BodyParts) → NamesRise body.blocks → EachOnce body.blocks (0 ∷ []) → k < fuel → k < length body.blocks
+    → code_names_data (tree_of body k) ≡ true → code_names_data (tree_of body 0) ≡ true
 climb zero k body rise once less within e = absurd (omega (arith, less))
 climb (suc fuel) k body rise once less within e = elim (cases_Bool (k == 0)) [
   | inl is ↦ subst (λ (n : ℕ). code_names_data (tree_of body n) ≡ true) (eqb-true k 0 is) e
   | inr not ↦
-      let j = some_naming k body.blocks (once_named body.blocks k once (λ z. let t = eq-eqb k 0 z in let f : true ≡ false = sym t ∙ not in absurd cc) within) in
-      let lower = above j.0 k (block_at body.blocks j.0) (rise.each j.0) j.1 in
+      let some : k ≢ 0 = λ z. let t = eq-eqb k 0 z in let f : true ≡ false = sym t ∙ not in absurd cc in
+      let j = naming-block k body.blocks (once-named body.blocks k once (omega (arith, some)) within) in
+      let lower = names-such (λ n. j.0 < n) k (block_at body.blocks j.0) (rise.each j.0) j.1 in
       let code = code_inner (λ i. leaf_of body.labels body.types i) (λ n. tree_of body n) k (block_at body.blocks j.0) j.1 e in
       let tree : code_names_data (tree_of body j.0) ≡ true = rw (tree_of_block body j.0 rise) code in
       climb fuel j.0 body rise once (omega (arith, less, lower)) (omega (arith, within, lower)) tree
 ]
 
-pub block_in_tree : (body : BodyParts) (m : ℕ) → IsBody body → m < length body.blocks → list_any names_data (block_at body.blocks m) ≡ true → code_names_data (tree_of body 0) ≡ true
+pub block_in_tree : (body : BodyParts) (m : ℕ) → IsBody body → m < length body.blocks → list_any names_data (block_at body.blocks m) ≡ true
+    → code_names_data (tree_of body 0) ≡ true
 block_in_tree body m is within e =
     let rise = is.rule.names_rise in
     let tree : code_names_data (tree_of body m) ≡ true = rw (tree_of_block body m rise) (block_names body.labels body.types (λ n. tree_of body n) (block_at body.blocks m) e) in
@@ -213,7 +193,8 @@ or_none true = refl
 or_none false = refl
 
 pub blocks_more : (blocks : Blocks) (i : ℕ) → i < length blocks
-    → list_any (λ block. list_any names_data block) (take (i + 1) blocks) ≡ (list_any (λ block. list_any names_data block) (take i blocks) || list_any names_data (block_at blocks i))
+    → list_any (λ block. list_any names_data block) (take (i + 1) blocks)
+    ≡ (list_any (λ block. list_any names_data block) (take i blocks) || list_any names_data (block_at blocks i))
 blocks_more [] i h = absurd (omega (arith, h))
 blocks_more (block ∷ blocks) zero h = or_none (list_any names_data block)
 blocks_more (block ∷ blocks) (suc i) h =

@@ -5,12 +5,11 @@ use Rattle.wz_bytes.specs.Forms.{items_at, vector_at}
 use Rattle.wz_types.specs.declared.types.ValType.{ValType}
 use Rattle.wz_code.specs.declared.instr.Instr.{Instr}
 use Rattle.wz_code.specs.declared.instr.Instr.TheVariants.{Block, Loop, If, BrTable, SelectTyped}
-use Rattle.wz_code.specs.BodyParts.{BodyParts, block_at, item_count}
-use Rattle.wz_code.specs.Trees.{Leaf, Plain, TableBranch, TypedSelect, leaf_of, leaf_in}
+use Rattle.wz_code.specs.BodyParts.{BodyParts, item_count}
+use Rattle.wz_code.specs.Trees.{Leaf, Plain, TableBranch, TypedSelect, leaf_in}
 use Rattle.wz_code.specs.BlockRule.{InPools, IsBuilding}
 use Rattle.wz_code.specs.Laws.{StaysBuilding}
-use Rattle.wz_code.proofs.TreeLemmas.{every-of, tree-pools}
-use Rattle.wz_code.proofs.RuleLemmas.{leaf-more, in-more}
+use Rattle.wz_code.proofs.LawLemmas.{taking_pools}
 use Rattle.wz_decode_code.specs.declared.token.Token.{Token}
 use Rattle.wz_decode_code.specs.declared.token.Token.TheVariants as token
 use Rattle.wz_decode_code.specs.Types.{type_at}
@@ -24,19 +23,7 @@ use Rattle.wz_decode_code.proofs.ItemLemmas.{u32_shorter}
 -- where the pools grow each tree stays
 pub grown_stays : (old new : BodyParts) (held : List ℕ) → IsBuilding old held → PoolsGrown old new → StaysBuilding old new held
 grown_stays old new held building g =
-    subst (λ (b : BodyParts). StaysBuilding old b held) (sym g.is) (record {
-      building = record {
-        names_rise = building.names_rise;
-        once = building.once;
-        pools = record {
-          each = λ n. every-of (λ i. InPools old.labels old.types i) (λ i. InPools (old.labels ++ g.labels) (old.types ++ g.types) i)
-              (λ i h. in-more old.labels g.labels old.types g.types i h) (block_at old.blocks n) (building.pools.each n);
-        };
-      };
-      trees = λ n. sym (tree-pools (λ i. leaf_of old.labels old.types i) (λ i. leaf_of (old.labels ++ g.labels) (old.types ++ g.types) i) old.blocks building.names_rise
-          (λ m. every-of (λ i. InPools old.labels old.types i) (λ i. leaf_of old.labels old.types i ≡ leaf_of (old.labels ++ g.labels) (old.types ++ g.types) i)
-          (λ i h. leaf-more old.labels g.labels old.types g.types i h) (block_at old.blocks m) (building.pools.each m)) n);
-    })
+    subst (λ (b : BodyParts). StaysBuilding old b held) (sym g.is) (taking_pools old held g.labels g.types building)
 
 pub grown_locals : (old new : BodyParts) → PoolsGrown old new → new.locals ≡ old.locals
 grown_locals old new g = ap (λ (b : BodyParts). b.locals) g.is

@@ -1,16 +1,16 @@
 -- What each token does to an expression that is being read.
-use Rattle.std.proofs.Common.{◌≡◌, ◌≢◌, ℕ, ◌+◌, ◌<◌, ◌≤◌, List, [], ◌∷◌, ◌++◌, length, refl, sym, ap, subst, ◌∙◌, arith}
+use Rattle.std.proofs.Common.{◌≡◌, ◌≢◌, ℕ, ◌+◌, ◌<◌, ◌≤◌, List, [], ◌∷◌, ◌++◌, length, refl, sym, ap, subst, ◌∙◌, arith, All}
 use Rattle.std.specs.Prelude.{reverse}
 use Rattle.std.proofs.lemmas.List.{reverse-append}
+use Rattle.std.proofs.lemmas.List.Elements.{All-nil, All-cons, All-head, All-tail}
 use Rattle.wz_code.specs.declared.instr.Shape.{Shape}
 use Rattle.wz_code.specs.declared.instr.Instr.{Instr}
 use Rattle.wz_code.specs.declared.instr.Instr.TheVariants.{Block, Loop, If}
 use Rattle.wz_code.specs.BodyParts.{BodyParts, with_instr, with_block, item_count}
 use Rattle.wz_code.specs.Trees.{Code, End, Then, joined, tree_of, leaf_in, headed_in}
-use Rattle.wz_code.specs.BlockRule.{Every, named, times, InPools}
+use Rattle.wz_code.specs.BlockRule.{named, times, InPools}
 use Rattle.wz_code.specs.Laws.{InstrTaken, BlockTaken}
-use Rattle.wz_code.proofs.RuleLemmas.{times-append, times-here, not-times}
-use Rattle.wz_code.proofs.LawLemmas.{held_is_there, taking_instr, taking_block, counts_instr, counts_block}
+use Rattle.wz_code.proofs.LawLemmas.{times-append, times-here, not-times, held_is_there, taking_instr, taking_block, counts_instr, counts_block}
 use Rattle.wz_decode_code.specs.declared.token.Token.{Token}
 use Rattle.wz_decode_code.specs.declared.token.Token.TheVariants as token
 use Rattle.wz_decode_code.specs.declared.blocks.Kind.{Kind}
@@ -21,24 +21,28 @@ use Rattle.wz_decode_code.specs.Opened.{part_of, around_of, arounds, first_arm_o
 
 -- ---- what is around stays
 
-part_same : (A B : BodyParts) (b : ℕ) → ((n : ℕ) → n ≢ b → tree_of A n ≡ tree_of B n) → (k : Kind) (rest : List ℕ) → Every (λ n. n ≢ b) (first_arm_of k ++ rest)
-    → (part_of A k ≡ part_of B k) × Every (λ n. n ≢ b) rest
+part_same : (A B : BodyParts) (b : ℕ) → ((n : ℕ) → n ≢ b → tree_of A n ≡ tree_of B n) → (k : Kind) (rest : List ℕ) → All (λ n. n ≢ b) (first_arm_of k ++ rest)
+    → (part_of A k ≡ part_of B k) × All (λ n. n ≢ b) rest
 part_same A B b agree kind.Block rest h = (refl, h)
 part_same A B b agree kind.Loop rest h = (refl, h)
 part_same A B b agree kind.First rest h = (refl, h)
-part_same A B b agree (kind.Second first) rest h = (ap (λ (c : Code). OfSecond c) (agree first h.0), h.1)
+part_same A B b agree (kind.Second first) rest h =
+    let Other : ℕ → Type 0 = λ n. n ≢ b in
+    (ap (λ (c : Code). OfSecond c) (agree first (All-head Other first rest h)), All-tail Other first rest h)
 
 around_is : (p q : BlockPart) (s : Shape) (c d : Code) → p ≡ q → c ≡ d
     → (let x : Around = record { part = p; shape = s; before = c } in x) ≡ record { part = q; shape = s; before = d }
 around_is p q s c d e f = rw (e, f) refl
 
-arounds_same : (A B : BodyParts) (b : ℕ) → ((n : ℕ) → n ≢ b → tree_of A n ≡ tree_of B n) → (opens : List Open) → Every (λ n. n ≢ b) (unnamed_around opens)
+arounds_same : (A B : BodyParts) (b : ℕ) → ((n : ℕ) → n ≢ b → tree_of A n ≡ tree_of B n) → (opens : List Open) → All (λ n. n ≢ b) (unnamed_around opens)
     → arounds A opens ≡ arounds B opens
 arounds_same A B b agree [] h = refl
 arounds_same A B b agree (o ∷ opens) h =
+    let Other : ℕ → Type 0 = λ n. n ≢ b in
     let p = part_same A B b agree o.kind (o.parent ∷ unnamed_around opens) h in
-    let first : around_of A o ≡ around_of B o = around_is (part_of A o.kind) (part_of B o.kind) o.shape (tree_of A o.parent) (tree_of B o.parent) p.0 (agree o.parent p.1.0) in
-    cc (first, arounds_same A B b agree opens p.1.1)
+    let before = agree o.parent (All-head Other o.parent (unnamed_around opens) p.1) in
+    let first : around_of A o ≡ around_of B o = around_is (part_of A o.kind) (part_of B o.kind) o.shape (tree_of A o.parent) (tree_of B o.parent) p.0 before in
+    cc (first, arounds_same A B b agree opens (All-tail Other o.parent (unnamed_around opens) p.1))
 
 part_all : (A B : BodyParts) → ((n : ℕ) → tree_of A n ≡ tree_of B n) → (k : Kind) → part_of A k ≡ part_of B k
 part_all A B agree kind.Block = refl
@@ -84,9 +88,9 @@ plain_holds : (body : BodyParts) (here : ℕ) (opens : List Open) (instr : Instr
 plain_holds body here opens instr reading none pools =
     let e = none_named instr none in
     let there = held_is_there body (unnamed_blocks here opens) here reading.building (here_held here opens) in
-    let away : Every (λ n. n ≢ here) (unnamed_around opens) = not-times here (unnamed_around opens) (omega (arith, times-here here (unnamed_around opens), there.1)) in
+    let away : All (λ n. n ≢ here) (unnamed_around opens) = not-times here (unnamed_around opens) (omega (arith, times-here here (unnamed_around opens), there.1)) in
     let taken : InstrTaken body here instr (unnamed_blocks here opens) = taking_instr body (unnamed_blocks here opens) here instr (unnamed_blocks here opens) reading.building
-    (record { held = here_held here opens; rises = rw e tt; pools = pools; moved = λ k. rw e (omega arith) }) in
+    (record { held = here_held here opens; rises = rw e (All-nil (λ k. here < k)); pools = pools; moved = λ k. rw e (omega arith) }) in
     record {
       reading = record { building = taken.building; rises = reading.rises };
       code = taken.here ∙ ap (λ (c : Code). joined (tree_of body here) c) (none_headed body instr none);
@@ -104,7 +108,7 @@ opened_holds body here opens o reading parent none =
     let taken : BlockTaken body (unnamed_blocks (length body.blocks) (o ∷ opens)) = taking_block body (unnamed_blocks here opens)
     (unnamed_blocks (length body.blocks) (o ∷ opens)) reading.building (λ k. rw (none, parent) refl) in
     record {
-      reading = record { building = taken.building; rises = (below, rw none tt, rising) };
+      reading = record { building = taken.building; rises = (below, rw none (All-nil (λ k. o.parent < k)), rising) };
       code = taken.here;
       around = arounds_all (with_block body) body (λ n. taken.elsewhere n) (o ∷ opens)
           ∙ ap (λ (n : ℕ). record { part = part_of body o.kind; shape = o.shape; before = tree_of body n } ∷ arounds body opens) parent;
@@ -117,7 +121,7 @@ second_holds : (body : BodyParts) (here : ℕ) (opens : List Open) (o now : Open
     (record { part = OfSecond (tree_of body here); shape = o.shape; before = tree_of body o.parent } ∷ arounds body opens)
 second_holds body here opens o now reading was is shape parent =
     let within = here_within body here (o ∷ opens) reading in
-    let behind = reading.rises.0 in
+    let behind = All-cons (λ k. o.parent < k) here [] reading.rises.0 (All-nil (λ k. o.parent < k)) in
     let below : now.parent < length body.blocks = rw parent (omega arith) in
     let rising : ParentsRise now.parent opens = rw parent reading.rises.2 in
     let before : unnamed_blocks here (o ∷ opens) ≡ here ∷ o.parent ∷ unnamed_around opens = rw was refl in
@@ -126,7 +130,7 @@ second_holds body here opens o now reading was is shape parent =
     (unnamed_blocks (length body.blocks) (now ∷ opens)) reading.building
     (λ k. ap (λ (h : List ℕ). times k h) now_held ∙ ap (λ (h : List ℕ). times k (length body.blocks ∷ h)) (sym before)) in
     record {
-      reading = record { building = taken.building; rises = (below, rw (is, parent) (behind, tt), rising) };
+      reading = record { building = taken.building; rises = (below, rw (is, parent) behind, rising) };
       code = taken.here;
       around = arounds_all (with_block body) body (λ n. taken.elsewhere n) (now ∷ opens) ∙ rw (is, shape, parent) refl;
     }
@@ -139,11 +143,11 @@ node_headed body kind.Loop shape here = refl
 node_headed body kind.First shape here = refl
 node_headed body (kind.Second first) shape here = refl
 
-node_names : (P : ℕ → Type 0) (k : Kind) (shape : Shape) (here : ℕ) → P here → Every P (first_arm_of k) → Every P (named (node_of k shape here))
-node_names P kind.Block shape here h ps = (h, tt)
-node_names P kind.Loop shape here h ps = (h, tt)
-node_names P kind.First shape here h ps = (h, tt)
-node_names P (kind.Second first) shape here h ps = (ps.0, (h, tt))
+node_names : (P : ℕ → Type 0) (k : Kind) (shape : Shape) (here : ℕ) → P here → All P (first_arm_of k) → All P (named (node_of k shape here))
+node_names P kind.Block shape here h ps = All-cons P here [] h (All-nil P)
+node_names P kind.Loop shape here h ps = All-cons P here [] h (All-nil P)
+node_names P kind.First shape here h ps = All-cons P here [] h (All-nil P)
+node_names P (kind.Second first) shape here h ps = All-cons P first (here ∷ []) (All-head P first [] ps) (All-cons P here [] h (All-nil P))
 
 node_moves : (k : Kind) (shape : Shape) (here n : ℕ) (rest : List ℕ) → times n (named (node_of k shape here)) + times n rest ≡ times n (here ∷ (first_arm_of k ++ rest))
 node_moves kind.Block shape here n rest = omega arith
@@ -170,7 +174,7 @@ closed_holds body here opens o reading =
     let b = o.parent in
     let instr = node_of o.kind o.shape here in
     let there = held_is_there body (unnamed_blocks here (o ∷ opens)) b reading.building (parent_held here opens o) in
-    let away : Every (λ n. n ≢ b) (unnamed_around opens) = not-times b (unnamed_around opens)
+    let away : All (λ n. n ≢ b) (unnamed_around opens) = not-times b (unnamed_around opens)
     (omega (arith, times-append b (first_arm_of o.kind) (b ∷ unnamed_around opens), times-here b (unnamed_around opens), there.1)) in
     let taken : InstrTaken body b instr (unnamed_blocks b opens) = taking_instr body (unnamed_blocks here (o ∷ opens)) b instr (unnamed_blocks b opens) reading.building (record {
       held = parent_held here opens o;

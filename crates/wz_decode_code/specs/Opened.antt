@@ -1,11 +1,11 @@
 -- What the numbered blocks of an expression that is being read stand for.
-use Rattle.std.specs.Prelude.{◌≡◌, ℕ, ◌<◌, List, [], ◌∷◌, ◌++◌, map, Option, Some, None}
+use Rattle.std.specs.Prelude.{◌≡◌, ℕ, ◌<◌, List, [], ◌∷◌, ◌++◌, map, Option, Some, None, All}
 use Rattle.wz_code.specs.declared.instr.Shape.{Shape}
 use Rattle.wz_code.specs.declared.instr.Instr.{Instr}
 use Rattle.wz_code.specs.declared.instr.Instr.TheVariants as instr
 use Rattle.wz_code.specs.BodyParts.{BodyParts}
 use Rattle.wz_code.specs.Trees.{tree_of, leaf_in}
-use Rattle.wz_code.specs.BlockRule.{Every, InPools, IsBuilding}
+use Rattle.wz_code.specs.BlockRule.{InPools, IsBuilding}
 use Rattle.wz_decode_code.specs.declared.token.Token.{Token}
 use Rattle.wz_decode_code.specs.declared.token.Token.TheVariants as token
 use Rattle.wz_decode_code.specs.declared.blocks.Kind.{Kind}
@@ -43,7 +43,7 @@ unnamed_blocks here opens = here ∷ unnamed_around opens
 -- a block comes behind its parent, and so does a first arm; the outermost is the body
 abbrev pub ParentsRise : ℕ → List Open → Type 0
 ParentsRise here [] = here ≡ 0
-ParentsRise here (o ∷ opens) = (o.parent < here) × Every (λ k. o.parent < k) (first_arm_of o.kind) × ParentsRise o.parent opens
+ParentsRise here (o ∷ opens) = (o.parent < here) × All (λ k. o.parent < k) (first_arm_of o.kind) × ParentsRise o.parent opens
 
 -- an expression that is being read
 pub record IsReading (body : BodyParts) (here : ℕ) (opens : List Open) : Type 0 where

@@ -2,7 +2,6 @@ pub mod NameLemmas
 pub mod SignatureLemmas
 pub mod KeptLemmas
 pub mod WholeLemmas
-pub mod TreeLemmas
 pub mod RisingLemmas
 pub mod RefLemmas
 pub mod SettingsLemmas

@@ -6,15 +6,15 @@ ghost use Rattle.std.specs.List.{flat_map};
 ghost use Rattle.std.specs.BTreeSet.{contains};
 ghost use Rattle.std.specs.Ordering.{nat_cmp};
 ghost use Rattle.wz_code.specs.Trees.{tree_of};
+ghost use Rattle.wz_code.specs.References.{referred_by, referred_in, AddsFunctions};
 ghost use Rattle.wz_module.specs.Views.{init_of, elem_mode_of, elem_of};
-ghost use Rattle.wz_exports.specs.Undeclared.{ref_of, refs_of, mode_refs, segment_refs};
-ghost use Rattle.wz_exports.specs.Undeclared.{target_refs, value_refs};
-ghost use Rattle.wz_exports.specs.Gathered.{AddsRefs};
+ghost use Rattle.wz_module.specs.References.{referred_in_mode, referred_in_segment, exported_function};
+ghost use Rattle.wz_exports.specs.Undeclared.{value_refs};
 
 use crate::kept::Kept;
 use std::alloc::{AllocError, Global};
 use std::collections::BTreeSet;
-use wz_code::{Body, Instr, Walk, laws, walk_body};
+use wz_code::{Body, Instr, Walk, walk_body};
 use wz_module::{Elem, ElemItems, ElemMode, ExportTarget};
 use wz_types::{Reference, Value};
 
@@ -28,12 +28,12 @@ impl Walk for References {
     type Fault = AllocError;
 
     ghost use Rattle.std.specs.Prelude.{ℕ, Bool};
-    ghost use Rattle.wz_exports.specs.Undeclared.{is_among};
+    ghost use Rattle.wz_code.specs.References.{has_number};
     ghost use Rattle.wz_exports.specs.Gathered.{more_named};
 
     ghost Meaning = { ℕ → Bool };
 
-    ghost meaning = { λ references function. is_among function references.functions.keys };
+    ghost meaning = { λ references function. has_number function references.functions.keys };
 
     ghost after = { λ _ instr named. more_named instr named };
 
@@ -55,7 +55,7 @@ impl References {
 
     fn add_function(&mut self, function: u32) -> Result<(), AllocError>
         ensures added { OnOk result
-            (AddsRefs self.old.functions.keys self.new.functions.keys (function ∷ [])) }
+            (AddsFunctions self.old.functions.keys self.new.functions.keys (function ∷ [])) }
         ensures kept { OnErr result (self.new.functions.keys ≡ self.old.functions.keys) }
     {
         self.functions.insert(function)?;
@@ -64,7 +64,7 @@ impl References {
 
     fn add_instr(&mut self, instr: Instr) -> Result<(), AllocError>
         ensures added { OnOk result
-            (AddsRefs self.old.functions.keys self.new.functions.keys (ref_of instr)) }
+            (AddsFunctions self.old.functions.keys self.new.functions.keys (referred_by instr)) }
         ensures kept { OnErr result (self.new.functions.keys ≡ self.old.functions.keys) }
     {
         // no other instruction makes a reference to a function that it names
@@ -75,18 +75,17 @@ impl References {
     }
 
     pub(crate) fn add_body(&mut self, body: &Body) -> Result<(), AllocError>
-        ensures { OnOk result (AddsRefs self.old.functions.keys self.new.functions.keys
-            (refs_of (tree_of body.now 0))) }
+        ensures { OnOk result (AddsFunctions self.old.functions.keys self.new.functions.keys
+            (referred_in (tree_of body.now 0))) }
     {
-        // the tree of a body is its blocks, each of which is named once
-        laws::tree_of_block();
+        // the call shows the block rule, by which the tree refers to what the blocks refer to
         let _count = body.block_count();
         walk_body(body, self)
     }
 
     pub(crate) fn add_bodies(&mut self, bodies: &[Body]) -> Result<(), AllocError>
-        ensures { let more = flat_map (λ body. refs_of (tree_of body 0)) bodies.now in
-            OnOk result (AddsRefs self.old.functions.keys self.new.functions.keys more) }
+        ensures { let more = flat_map (λ body. referred_in (tree_of body 0)) bodies.now in
+            OnOk result (AddsFunctions self.old.functions.keys self.new.functions.keys more) }
     {
         for body in bodies {
             self.add_body(body)?;
@@ -96,7 +95,7 @@ impl References {
 
     fn add_functions(&mut self, functions: &[u32]) -> Result<(), AllocError>
         ensures { let more = flat_map (λ function. function ∷ []) functions.now in
-            OnOk result (AddsRefs self.old.functions.keys self.new.functions.keys more) }
+            OnOk result (AddsFunctions self.old.functions.keys self.new.functions.keys more) }
     {
         for function in functions {
             self.add_function(*function)?;
@@ -105,8 +104,8 @@ impl References {
     }
 
     fn add_mode(&mut self, mode: &ElemMode) -> Result<(), AllocError>
-        ensures { let more = mode_refs (elem_mode_of mode.now) in
-            OnOk result (AddsRefs self.old.functions.keys self.new.functions.keys more) }
+        ensures { let more = referred_in_mode (elem_mode_of mode.now) in
+            OnOk result (AddsFunctions self.old.functions.keys self.new.functions.keys more) }
     {
         match mode {
             ElemMode::Active { table: _, offset } => self.add_body(offset),
@@ -116,8 +115,8 @@ impl References {
     }
 
     fn add_items(&mut self, items: &ElemItems) -> Result<(), AllocError>
-        ensures { let more = flat_map refs_of (init_of items.now) in
-            OnOk result (AddsRefs self.old.functions.keys self.new.functions.keys more) }
+        ensures { let more = flat_map referred_in (init_of items.now) in
+            OnOk result (AddsFunctions self.old.functions.keys self.new.functions.keys more) }
     {
         match items {
             ElemItems::Funcs(functions) => self.add_functions(functions),
@@ -126,16 +125,16 @@ impl References {
     }
 
     fn add_segment(&mut self, segment: &Elem) -> Result<(), AllocError>
-        ensures { let more = segment_refs (elem_of segment.now) in
-            OnOk result (AddsRefs self.old.functions.keys self.new.functions.keys more) }
+        ensures { let more = referred_in_segment (elem_of segment.now) in
+            OnOk result (AddsFunctions self.old.functions.keys self.new.functions.keys more) }
     {
         self.add_mode(&segment.mode)?;
         self.add_items(&segment.items)
     }
 
     pub(crate) fn add_segments(&mut self, segments: &[Elem]) -> Result<(), AllocError>
-        ensures { let more = flat_map segment_refs (map elem_of segments.now) in
-            OnOk result (AddsRefs self.old.functions.keys self.new.functions.keys more) }
+        ensures { let more = flat_map referred_in_segment (map elem_of segments.now) in
+            OnOk result (AddsFunctions self.old.functions.keys self.new.functions.keys more) }
     {
         for segment in segments {
             self.add_segment(segment)?;
@@ -145,7 +144,7 @@ impl References {
 
     fn add_target(&mut self, target: ExportTarget) -> Result<(), AllocError>
         ensures { OnOk result
-            (AddsRefs self.old.functions.keys self.new.functions.keys (target_refs target)) }
+            (AddsFunctions self.old.functions.keys self.new.functions.keys (exported_function target)) }
     {
         match target {
             ExportTarget::Func(function) => self.add_function(function),
@@ -156,8 +155,8 @@ impl References {
     }
 
     pub(crate) fn add_exports(&mut self, kept: &Kept) -> Result<(), AllocError>
-        ensures { let more = flat_map (λ e. target_refs e.target) kept.now.entries in
-            OnOk result (AddsRefs self.old.functions.keys self.new.functions.keys more) }
+        ensures { let more = flat_map (λ e. exported_function e.target) kept.now.entries in
+            OnOk result (AddsFunctions self.old.functions.keys self.new.functions.keys more) }
     {
         for at in 0..kept.len() {
             if let Some((_, target)) = kept.entry(at) {
@@ -169,7 +168,7 @@ impl References {
 
     fn add_value(&mut self, value: Value) -> Result<(), AllocError>
         ensures { OnOk result
-            (AddsRefs self.old.functions.keys self.new.functions.keys (value_refs value)) }
+            (AddsFunctions self.old.functions.keys self.new.functions.keys (value_refs value)) }
     {
         if let Value::Ref(Reference::Fn(function)) = value {
             self.add_function(function)?;
@@ -179,7 +178,7 @@ impl References {
 
     pub(crate) fn add_values(&mut self, values: &[Value]) -> Result<(), AllocError>
         ensures { let more = flat_map value_refs values.now in
-            OnOk result (AddsRefs self.old.functions.keys self.new.functions.keys more) }
+            OnOk result (AddsFunctions self.old.functions.keys self.new.functions.keys more) }
     {
         for value in values {
             self.add_value(*value)?;

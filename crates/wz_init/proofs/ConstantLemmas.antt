@@ -17,9 +17,10 @@ use Rattle.wz_code.specs.declared.instr.Instr.{Instr}
 use Rattle.wz_code.specs.declared.instr.Instr.TheVariants.{I32Const, I64Const, F32Const, F64Const, RefNull, RefFunc, GlobalGet}
 use Rattle.wz_code.specs.BodyParts.{BodyParts, block_at}
 use Rattle.wz_code.specs.Trees.{Code, End, Then, Plain, expand, leaf_in, tree_of, tree_in, tree_by}
+use Rattle.wz_code.specs.References.{has_number}
 use Rattle.wz_valid_code.specs.Operands.{Operands, Takes}
 use Rattle.wz_valid_code.specs.Rules.{Rule, Exchange, rule_if, rule_from, Leads, Lead}
-use Rattle.wz_valid_code.specs.Context.{TypingContext, may_refer, has_number, constant_global, if_constant}
+use Rattle.wz_valid_code.specs.Context.{TypingContext, may_refer, constant_global, if_constant}
 use Rattle.wz_valid_code.specs.ConstantInstructions.{constant_instr_rule}
 use Rattle.wz_valid_code.specs.Blocks.{constant_rules}
 use Rattle.wz_valid_code.specs.Typing.{IsConstant, LeadsToConstant}

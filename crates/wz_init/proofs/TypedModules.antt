@@ -11,13 +11,14 @@ use Rattle.wz_types.specs.declared.types.MemType.{MemType}
 use Rattle.wz_types.specs.declared.value.Value.{Value}
 use Rattle.wz_types.specs.FunctionType.{FunctionType}
 use Rattle.wz_types.specs.Fits.{Fits}
+use Rattle.wz_code.specs.References.{has_number}
 use Rattle.wz_module.specs.declared.items.ImportKind.{ImportKind}
 use Rattle.wz_module.specs.declared.items.ImportKind.TheVariants as kind
 use Rattle.wz_module.specs.Imports.{Import}
 use Rattle.wz_module.specs.Functions.{BodyTree}
 use Rattle.wz_module.specs.Globals.{GlobalDef}
 use Rattle.wz_module.specs.Module.{Module}
-use Rattle.wz_valid_code.specs.Context.{has_number, locals_of_runs}
+use Rattle.wz_valid_code.specs.Context.{locals_of_runs}
 use Rattle.wz_valid_code.specs.Laws.{Serves}
 use Rattle.wz_valid_code.proofs.LawLemmas.{typing_serves}
 use Rattle.wz_valid.specs.Indices.{function_import, imported_functions, all_functions}

@@ -16,11 +16,12 @@ use Rattle.wz_types.specs.declared.types.ValType.TheVariants as valtype
 use Rattle.wz_types.specs.declared.types.RefKind.TheVariants as kind
 use Rattle.wz_code.specs.declared.numeric.NumOp.{NumOp}
 use Rattle.wz_code.specs.Numeric.{types_of}
+use Rattle.wz_code.specs.References.{has_number}
 use Rattle.wz_num.specs.declared.answer.NumAnswer.{NumAnswer}
 use Rattle.wz_num.specs.Laws.{AnswerServes, NumbersServe, listed_types}
 use Rattle.wz_num.specs.Number.{number}
 use Rattle.wz_num.specs.declared.answer.NumAnswer.TheVariants as answer
-use Rattle.wz_valid_code.specs.Context.{TypingContext, may_refer, has_number, type_to_set, Labels}
+use Rattle.wz_valid_code.specs.Context.{TypingContext, may_refer, type_to_set, Labels}
 use Rattle.wz_valid_code.specs.Operands.{Operands, Takes, Operand, fits, Becomes, is_reference}
 use Rattle.wz_valid_code.specs.Rules.{Leads, Exchange, DropOne, rule_if, Rule, rule_from}
 use Rattle.wz_valid_code.specs.Instructions.{constant_of, operation_rule}

@@ -5,8 +5,9 @@ use Rattle.wz_types.specs.declared.types.ValType.{ValType}
 use Rattle.wz_types.specs.FunctionType.{FunctionType}
 use Rattle.wz_code.specs.BodyParts.{BodyParts}
 use Rattle.wz_code.specs.Trees.{tree_of}
+use Rattle.wz_code.specs.References.{has_number}
 use Rattle.wz_num.specs.Number.{number}
-use Rattle.wz_valid_code.specs.Context.{has_number, TypingContext, locals_of_runs}
+use Rattle.wz_valid_code.specs.Context.{TypingContext, locals_of_runs}
 use Rattle.wz_valid_code.specs.Laws.{Serves}
 use Rattle.wz_valid_code.specs.Typing.{IsBodyTyped}
 use Rattle.wz_valid_code.proofs.LawLemmas.{typing_serves}

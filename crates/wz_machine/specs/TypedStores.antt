@@ -2,7 +2,8 @@
 -- typed in the state that a store and the module's bodies are.
 use Rattle.std.specs.Prelude.{◌≡◌, ◌<◌, ℕ, List, Some, IsSomeAnd, IsTrue, slice_get, length}
 use Rattle.wz_code.specs.BodyParts.{BodyParts}
-use Rattle.wz_valid_code.specs.Context.{TypingContext, has_number}
+use Rattle.wz_code.specs.References.{has_number}
+use Rattle.wz_valid_code.specs.Context.{TypingContext}
 use Rattle.wz_valid_code.specs.Typing.{IsBodyTyped}
 use Rattle.wz_store.specs.declared.function.Function.{Function}
 use Rattle.wz_store.specs.declared.function.Function.TheVariants.{Own, Import}

@@ -5,6 +5,7 @@ pub mod Functions
 pub mod Globals
 pub mod Elements
 pub mod Datas
+pub mod References
 pub mod Module
 pub mod ShortLists
 pub mod Views

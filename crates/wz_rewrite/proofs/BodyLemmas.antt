@@ -1,36 +1,35 @@
 -- What a valid module has: the functions that its bodies name; and what its kept exports name.
-use Rattle.std.proofs.Common.{◌≡◌, ℕ, List, [], ◌∷◌, ◌++◌, Option, Some, None, inl, inr, Bool, true, false, IsTrue, Result, Ok, Err, IsSomeAnd, ◌==◌}
+use Rattle.std.proofs.Common.{◌≡◌, ℕ, List, [], ◌∷◌, ◌++◌, Option, Some, None, inl, inr, Bool, true, false, IsTrue, Result, Ok, Err, IsSomeAnd}
 use Rattle.std.proofs.Common.{refl, sym, ap, subst, slice_get, All}
 use Rattle.std.specs.Prelude.{is_some}
 use Rattle.std.specs.List.{flat_map}
 use Rattle.std.proofs.lemmas.List.Elements.{All-nil, All-cons, All-head, All-tail, All-append}
 use Rattle.std.proofs.lemmas.Option.{slice_get_within}
-use Rattle.std.proofs.lemmas.Bool.{eqb-true}
 use Rattle.wz_types.specs.declared.types.ValType.{ValType}
 use Rattle.wz_types.specs.declared.types.ValType.TheVariants.{FuncRef}
 use Rattle.wz_types.proofs.SameTypeLemmas.{and-parts}
 use Rattle.wz_code.specs.declared.instr.Instr.TheVariants.{RefFunc}
 use Rattle.wz_code.specs.Trees.{Code, End, Then, InBlock, InLoop, InIf, Leaf, Plain, TableBranch, TypedSelect}
+use Rattle.wz_code.specs.References.{has_number, referred_in_leaf, referred_in}
+use Rattle.wz_code.proofs.NumberLemmas.{Has, has-cases, one-number, flat-has}
 use Rattle.wz_module.specs.declared.items.ExportTarget.{ExportTarget}
 use Rattle.wz_module.specs.Exports.{Export}
 use Rattle.wz_module.specs.Functions.{BodyTree}
 use Rattle.wz_module.specs.Module.{Module}
 use Rattle.wz_valid_code.specs.Operands.{Operands, pushed}
 use Rattle.wz_valid_code.specs.Rules.{Rule, Exchange, rule_if, Leads}
-use Rattle.wz_valid_code.specs.Context.{Scope, Labels, scope_of, shape_type, has_number, may_refer}
+use Rattle.wz_valid_code.specs.Context.{Scope, Labels, scope_of, shape_type, may_refer}
 use Rattle.wz_valid_code.specs.Instructions.{rule_of}
 use Rattle.wz_valid_code.specs.Typing.{IsTyped}
 use Rattle.wz_valid.specs.declared.faults.Part.TheVariants as part
 use Rattle.wz_valid.specs.Indices.{all_functions}
 use Rattle.wz_valid.specs.Contexts.{context_of}
-use Rattle.wz_valid.specs.DeclaredFunctions.{referred_in_leaf, referred_in}
 use Rattle.wz_valid.specs.Items.{IsTreeTyped, IsBodyOk}
 use Rattle.wz_valid.specs.Validity.{IsValid}
 use Rattle.wz_words.specs.Settings.{Settings}
 use Rattle.wz_exports.specs.declared.fault.ExportFault.{ExportFault}
 use Rattle.wz_exports.specs.Undeclared.{body_refs}
 use Rattle.wz_exports.specs.Kept.{KeptExports, kept, kept_beside, unless_misnamed, first_misnamed, function_named, reactor_in, kept_exports, kept_name, under_name}
-use Rattle.wz_rewrite.proofs.NumberLemmas.{Has, has-cases, or-cases, flat-has, code-same}
 use Rattle.wz_rewrite.proofs.ItemLemmas.{some-at}
 
 -- ---- functions that typed code names are there
@@ -42,12 +41,6 @@ from-some (Some x) P Q each h = each x h
 if-fits : (b : Bool) (rule : Rule) (s n : Operands) → Leads (rule_if b rule) s n → IsTrue b
 if-fits true rule s n l = refl
 if-fits false rule s n l = absurd l
-
-one-number : (f g : ℕ) → Has f (g ∷ []) → f ≡ g
-one-number f g h = elim (or-cases (f == g) false h) [
-  | inl same ↦ eqb-true f g same
-  | inr none ↦ absurd cc
-]
 
 leaf-there : (scope : Scope) (labels : Labels) (leaf : Leaf) (s n : Operands) → Leads (rule_of scope labels leaf) s n → (f : ℕ) → Has f (referred_in_leaf leaf)
     → IsTrue (is_some (slice_get scope.context.functions f))
@@ -111,7 +104,7 @@ named-there m valid f h =
     (λ i body here inside.
     body-there m i body
     (some-at (slice_get m.bodies i) (λ b. IsBodyOk m i b) body here (valid part.Code i (slice_get_within m.bodies i body here)))
-    f (subst (λ (ns : List ℕ). Has f ns) (code-same body.1) inside))
+    f inside)
     h
 
 -- ---- kept exports

@@ -17,20 +17,20 @@ use Rattle.wz_types.proofs.FitsLemmas.{fits-parts}
 use Rattle.wz_types.proofs.SameTypeLemmas.{and-intro, same_type-itself}
 use Rattle.wz_code.specs.declared.instr.Instr.TheVariants as instr
 use Rattle.wz_code.specs.Trees.{End, Then, Leaf, Plain}
+use Rattle.wz_code.specs.References.{has_number, referred_in, AreIn}
+use Rattle.wz_code.proofs.NumberLemmas.{Has, has-here, has-first, has-second}
 use Rattle.wz_module.specs.Elements.{function_reference}
 use Rattle.wz_module.specs.Globals.{GlobalDef}
 use Rattle.wz_valid_code.specs.Operands.{Operands}
 use Rattle.wz_valid_code.specs.Rules.{Rule, Exchange, rule_if, Leads}
-use Rattle.wz_valid_code.specs.Context.{TypingContext, has_number, may_refer}
+use Rattle.wz_valid_code.specs.Context.{TypingContext, may_refer}
 use Rattle.wz_valid_code.specs.Instructions.{constant_of}
 use Rattle.wz_valid_code.specs.ConstantInstructions.{constant_rule}
 use Rattle.wz_valid_code.specs.Typing.{IsConstant}
-use Rattle.wz_valid.specs.DeclaredFunctions.{referred_in}
 use Rattle.wz_encode.specs.Constants.{constant_code}
 use Rattle.wz_encode.specs.Globals.{global_with}
 use Rattle.wz_exports.specs.Undeclared.{value_refs}
 use Rattle.wz_rewrite.specs.ValidOutput.{IsNotForeign}
-use Rattle.wz_rewrite.proofs.NumberLemmas.{Has, AreIn, has-here, has-first, has-second}
 use Rattle.wz_rewrite.proofs.ItemLemmas.{below-there}
 
 -- ---- one instruction
@@ -86,7 +86,8 @@ abbrev pub begun : List GlobalDef → List Value → List GlobalDef
 begun globals values = map global_with (zip (map (λ global. global.kind) globals) values)
 
 module _ (R : GlobalDef → Value → Type 0) where
-  pub begun-refs : (globals : List GlobalDef) (values : List Value) → AllZip R globals values → flat_map (λ g. referred_in g.init) (begun globals values) ≡ flat_map value_refs values
+  pub begun-refs : (globals : List GlobalDef) (values : List Value) → AllZip R globals values
+      → flat_map (λ g. referred_in g.init) (begun globals values) ≡ flat_map value_refs values
   begun-refs [] [] h = refl
   begun-refs [] (v ∷ values) h = absurd h
   begun-refs (g ∷ globals) [] h = absurd h

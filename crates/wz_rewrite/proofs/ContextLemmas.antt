@@ -4,28 +4,30 @@ use Rattle.std.proofs.Common.{sym, ap, subst, ◌∙◌, arith}
 use Rattle.std.specs.List.{flat_map}
 use Rattle.std.proofs.lemmas.List.{length-append, length-map, map-append}
 use Rattle.std.proofs.lemmas.List.Concat.{flat_map-append}
+use Rattle.std.proofs.lemmas.Bool.{or_cases}
 use Rattle.wz_types.specs.declared.types.GlobalType.{GlobalType}
 use Rattle.wz_types.specs.declared.types.RefKind.{RefKind}
+use Rattle.wz_code.specs.References.{referred_in, AreIn}
+use Rattle.wz_code.proofs.NumberLemmas.{Has, has-first, has-second, in-both}
 use Rattle.wz_module.specs.Elements.{Elem}
-use Rattle.wz_module.specs.Exports.{Export}
 use Rattle.wz_module.specs.Module.{Module}
+use Rattle.wz_module.specs.References.{referred_in_segment, exported_function}
 use Rattle.wz_valid_code.specs.Widening.{widened}
 use Rattle.wz_valid.specs.Indices.{imported_memories, imported_globals, all_functions, all_tables}
 use Rattle.wz_valid.specs.Contexts.{context_of}
-use Rattle.wz_valid.specs.DeclaredFunctions.{referred_in, referred_in_segment, exported_function, declared_in}
+use Rattle.wz_valid.specs.DeclaredFunctions.{declared_in}
 use Rattle.wz_store.specs.State.{Memory}
 use Rattle.wz_encode.specs.Elements.{kept_elements, declaring, declarations}
 use Rattle.wz_encode.specs.Datas.{segment_of}
 use Rattle.wz_snapshot.specs.Recorded.{RecordedState}
 use Rattle.wz_exports.specs.Kept.{KeptExports}
-use Rattle.wz_exports.specs.Undeclared.{body_refs, segment_refs, target_refs, value_refs, refs_elsewhere, undeclared_functions}
+use Rattle.wz_exports.specs.Undeclared.{body_refs, value_refs, refs_elsewhere, undeclared_functions}
 use Rattle.wz_exports.specs.Laws.{RefsAreFound}
 use Rattle.wz_rewrite.specs.OutputState.{output_state}
 use Rattle.wz_rewrite.specs.Slots.{output_slots, filled_slots, with_behind}
 use Rattle.wz_rewrite.specs.Dropped.{dropped_elements}
 use Rattle.wz_rewrite.specs.Output.{output_module}
 use Rattle.wz_rewrite.specs.ValidOutput.{HasTypesOf, FitsGlobal, AllowsPages}
-use Rattle.wz_rewrite.proofs.NumberLemmas.{Has, AreIn, or-cases, has-first, has-second, in-both, flat-agree, segment-same, target-same}
 use Rattle.wz_rewrite.proofs.ConstantLemmas.{begun-refs, begun-kinds}
 use Rattle.wz_rewrite.proofs.SizeLemmas.{grown-count}
 use Rattle.wz_rewrite.proofs.ContentLemmas.{dropped_passive}
@@ -90,21 +92,13 @@ module _ (m : Module) (r : RecordedState) (memories : List Memory) (k : KeptExpo
 
   elsewhere-declared : AreIn (refs_elsewhere m r k) (declared_in out)
   elsewhere-declared =
-      let segments = flat_map segment_refs m.elements in
-      let exports = flat_map (λ (e : Export). target_refs e.target) k.entries in
-      in-both segments (exports ++ flat_map value_refs r.globals) (declared_in out)
-      (λ f h. old-declared f (subst (λ (ns : List ℕ). Has f ns) (flat-agree segment_refs referred_in_segment m.elements segment-same) h))
-      (in-both exports (flat_map value_refs r.globals) (declared_in out)
-      (λ f h.
-      exports-declared f
-      (subst (λ (ns : List ℕ). Has f ns)
-      (flat-agree (λ (e : Export). target_refs e.target) (λ (e : Export). exported_function e.target) k.entries (λ e. target-same e.target)) h))
-      values-declared)
+      in-both (flat_map referred_in_segment m.elements) (in_exports ++ flat_map value_refs r.globals) (declared_in out) old-declared
+      (in-both in_exports (flat_map value_refs r.globals) (declared_in out) exports-declared values-declared)
 
   -- each function that a body names
   pub bodies-declared : RefsAreFound → AreIn (flat_map body_refs m.bodies) (declared_in out)
   bodies-declared found f h =
-      elim (or-cases _ _ (found m r k f h)) [
+      elim (or_cases _ _ (found m r k f h)) [
         | inl elsewhere ↦ elsewhere-declared f elsewhere
         | inr anew ↦ anew-declared f anew
       ]

@@ -7,13 +7,14 @@ use Rattle.std.proofs.lemmas.List.Elements.{All-nil, All-cons, All-head, All-tai
 use Rattle.wz_types.specs.declared.types.RefKind.{RefKind}
 use Rattle.wz_types.specs.declared.types.ValType.TheVariants.{FuncRef}
 use Rattle.wz_code.specs.Trees.{Code}
+use Rattle.wz_code.specs.References.{referred_in, AreIn}
+use Rattle.wz_code.proofs.NumberLemmas.{Has, has-first, has-here, has-later}
 use Rattle.wz_module.specs.Elements.{ElemMode, PassiveElem, Elem, function_reference}
+use Rattle.wz_module.specs.References.{referred_in_mode, referred_in_segment}
 use Rattle.wz_valid_code.specs.Context.{TypingContext}
 use Rattle.wz_valid_code.specs.Typing.{IsConstant}
-use Rattle.wz_valid.specs.DeclaredFunctions.{referred_in, referred_in_mode, referred_in_segment}
 use Rattle.wz_encode.specs.Laws.{DroppedArePassive}
 use Rattle.wz_encode.specs.Elements.{is_dropped, as_declarative, kept_elements, declaring, declarations}
-use Rattle.wz_rewrite.proofs.NumberLemmas.{Has, AreIn, has-first, has-here, has-later}
 use Rattle.wz_rewrite.proofs.ConstantLemmas.{function-ok}
 
 -- ---- what they name, their kinds, and what holds of each

@@ -12,7 +12,6 @@ pub mod LookupLemmas
 pub mod OrderLemmas
 pub mod ContentLemmas
 pub mod SpellLaws
-pub mod NumberLemmas
 pub mod ValidLemmas
 pub mod ItemLemmas
 pub mod ConstantLemmas

@@ -14,6 +14,8 @@ use Rattle.wz_types.specs.declared.types.ValType.{ValType}
 use Rattle.wz_types.specs.declared.types.ValType.TheVariants.{I32}
 use Rattle.wz_types.specs.Fits.{type_of_kind}
 use Rattle.wz_code.specs.Trees.{Code}
+use Rattle.wz_code.specs.References.{referred_in, AreIn}
+use Rattle.wz_code.proofs.NumberLemmas.{in-first, in-second, in-flat, in-filtered, all-from-has}
 use Rattle.wz_module.specs.declared.items.ImportKind.{ImportKind}
 use Rattle.wz_module.specs.declared.items.ImportKind.TheVariants as kind
 use Rattle.wz_module.specs.declared.items.ExportTarget.{ExportTarget}
@@ -23,6 +25,7 @@ use Rattle.wz_module.specs.Exports.{Export}
 use Rattle.wz_module.specs.Functions.{BodyTree}
 use Rattle.wz_module.specs.Elements.{ElemMode, PassiveElem, ActiveElem, DeclarativeElem, Elem}
 use Rattle.wz_module.specs.Module.{Module}
+use Rattle.wz_module.specs.References.{referred_in_mode, referred_in_segment}
 use Rattle.wz_valid_code.specs.Context.{TypingContext, scope_of}
 use Rattle.wz_valid_code.specs.Typing.{IsConstant}
 use Rattle.wz_valid_code.specs.Widening.{widened}
@@ -31,7 +34,7 @@ use Rattle.wz_valid.specs.declared.faults.Part.{Part}
 use Rattle.wz_valid.specs.declared.faults.Part.TheVariants as part
 use Rattle.wz_valid.specs.Indices.{memory_import, imported_memories, all_functions}
 use Rattle.wz_valid.specs.Contexts.{context_of, globals_context_of}
-use Rattle.wz_valid.specs.DeclaredFunctions.{referred_in, referred_in_mode, referred_in_segment, declared_in}
+use Rattle.wz_valid.specs.DeclaredFunctions.{declared_in}
 use Rattle.wz_valid.specs.Limits.{IsMemoryOk}
 use Rattle.wz_valid.specs.Items.{IsTreeTyped, IsBodyOk, IsOnlyMemory, IsGlobalOk, IsTarget, IsExportOk, IsElemModeOk, IsElemOk, IsDataModeOk}
 use Rattle.wz_valid.specs.Validity.{IsItemOk, IsPartOk, IsValid}
@@ -50,7 +53,6 @@ use Rattle.wz_rewrite.specs.OutputState.{HasRange, HasRanges, output_state}
 use Rattle.wz_rewrite.specs.Slots.{output_slots}
 use Rattle.wz_rewrite.specs.Dropped.{dropped_elements}
 use Rattle.wz_rewrite.specs.ValidOutput.{AllowsPages, HasTypesOf, GivesNamesOnce, IsValidWith, OutputIsValid}
-use Rattle.wz_rewrite.proofs.NumberLemmas.{Has, AreIn, has-first, has-second, refers, code-same, in-flat, in-filtered, all-from-has}
 use Rattle.wz_rewrite.proofs.ItemLemmas.{all-items, item-of, some-more, below-of-some, NamesDiffer, IsNewName, new-name, names-differ}
 use Rattle.wz_rewrite.proofs.ConstantLemmas.{begun-ok}
 use Rattle.wz_rewrite.proofs.SizeLemmas.{grown-count, grown-sum, grown-ok, each-within}
@@ -116,16 +118,16 @@ module _ (m : Module) (s : Settings) (k : KeptExports) (r : RecordedState) (memo
   constant-still : (code : Code) (type : ValType) → AreIn (referred_in code) declared → IsConstant (context_of m) code type → IsConstant (context_of out) code type
   constant-still code type inside ok =
       subst (λ (c : TypingContext). IsConstant c code type) (sym same-context)
-      (constant_widens (context_of m) (more_kinds m r memories k types) (length out.datas) declared code type (refers declared code inside) ok)
+      (constant_widens (context_of m) (more_kinds m r memories k types) (length out.datas) declared code type inside ok)
 
   constants-still : (codes : List Code) (type : ValType) → AreIn (flat_map referred_in codes) declared → All (λ code. IsConstant (context_of m) code type) codes
       → All (λ code. IsConstant (context_of out) code type) codes
   constants-still [] type inside ok = All-nil (λ (code : Code). IsConstant (context_of out) code type)
   constants-still (code ∷ codes) type inside ok =
       All-cons (λ (x : Code). IsConstant (context_of out) x type) code codes
-      (constant-still code type (λ f h. inside f (has-first f (referred_in code) (flat_map referred_in codes) h))
+      (constant-still code type (in-first (referred_in code) (flat_map referred_in codes) declared inside)
       (All-head (λ (x : Code). IsConstant (context_of m) x type) code codes ok))
-      (constants-still codes type (λ f h. inside f (has-second f (referred_in code) (flat_map referred_in codes) h))
+      (constants-still codes type (in-second (referred_in code) (flat_map referred_in codes) declared inside)
       (All-tail (λ (x : Code). IsConstant (context_of m) x type) code codes ok))
 
   -- ---- bodies
@@ -133,13 +135,13 @@ module _ (m : Module) (s : Settings) (k : KeptExports) (r : RecordedState) (memo
   body-ok : (i : ℕ) (body : BodyTree) → slice_get m.bodies i ≡ Some body → IsBodyOk m i body → IsBodyOk out i body
   body-ok i body here ok =
       let inside : AreIn (referred_in body.1) declared = λ f h. bodies-declared m r memories k types found f
-      (in-flat body_refs m.bodies i body here f (subst (λ (ns : List ℕ). Has f ns) (sym (code-same body.1)) h)) in
+      (in-flat body_refs m.bodies i body here f h) in
       some-more (slice_get m.functions i) (λ type. IsSomeAnd (slice_get m.types type) (λ signature. IsTreeTyped (context_of m) signature body)) _
       (λ type at fine. some-more (slice_get m.types type) (λ signature. IsTreeTyped (context_of m) signature body) _
       (λ signature known typed.
       subst (λ (c : TypingContext). IsTreeTyped c signature body) (sym same-context)
       (typing_widens (scope_of (context_of m) signature body.0) (more_kinds m r memories k types) (length out.datas) declared
-      (more-datas m r memories k types) (signature.results ∷ []) body.1 [] signature.results (refers declared body.1 inside) typed)) fine) ok
+      (more-datas m r memories k types) (signature.results ∷ []) body.1 [] signature.results inside typed)) fine) ok
 
   -- ---- element segments
 
@@ -152,16 +154,16 @@ module _ (m : Module) (s : Settings) (k : KeptExports) (r : RecordedState) (memo
   element-ok e inside ok =
       let mode = referred_in_mode e.mode in
       let inits = flat_map referred_in e.init in (
-        constants-still e.init (type_of_kind e.kind) (λ f h. inside f (has-second f mode inits h)) ok.0,
-        mode-ok e e.mode (λ f h. inside f (has-first f mode inits h)) ok.1,
+        constants-still e.init (type_of_kind e.kind) (in-second mode inits declared inside) ok.0,
+        mode-ok e e.mode (in-first mode inits declared inside) ok.1,
       )
 
   olds-ok : (es : List Elem) → AreIn (flat_map referred_in_segment es) declared → All (λ e. IsElemOk m e) es → All (λ e. IsElemOk out e) es
   olds-ok [] inside ok = All-nil (λ (e : Elem). IsElemOk out e)
   olds-ok (e ∷ es) inside ok =
       All-cons (λ (x : Elem). IsElemOk out x) e es
-      (element-ok e (λ f h. inside f (has-first f (referred_in_segment e) (flat_map referred_in_segment es) h)) (All-head (λ (x : Elem). IsElemOk m x) e es ok))
-      (olds-ok es (λ f h. inside f (has-second f (referred_in_segment e) (flat_map referred_in_segment es) h)) (All-tail (λ (x : Elem). IsElemOk m x) e es ok))
+      (element-ok e (in-first (referred_in_segment e) (flat_map referred_in_segment es) declared inside) (All-head (λ (x : Elem). IsElemOk m x) e es ok))
+      (olds-ok es (in-second (referred_in_segment e) (flat_map referred_in_segment es) declared inside) (All-tail (λ (x : Elem). IsElemOk m x) e es ok))
 
   undeclared-there : All (λ f. IsTrue (is_some (slice_get (all_functions m) f))) undeclared
   undeclared-there =

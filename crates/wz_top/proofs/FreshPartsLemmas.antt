@@ -13,6 +13,7 @@ use Rattle.wz_types.specs.Fits.{Fits}
 use Rattle.wz_types.specs.Laws.{NamesThere}
 use Rattle.wz_types.proofs.FitsLemmas.{fits-parts}
 use Rattle.wz_code.specs.Trees.{Code}
+use Rattle.wz_code.proofs.NumberLemmas.{Has, has-here, has-later, in-filtered}
 use Rattle.wz_module.specs.Globals.{GlobalDef}
 use Rattle.wz_module.specs.Elements.{Elem, function_reference}
 use Rattle.wz_module.specs.Module.{Module}
@@ -30,7 +31,6 @@ use Rattle.wz_exports.proofs.RisingLemmas.{has-rising}
 use Rattle.wz_rewrite.specs.OutputState.{OutputState}
 use Rattle.wz_rewrite.specs.Dropped.{dropped_elements}
 use Rattle.wz_rewrite.specs.Output.{output_module}
-use Rattle.wz_rewrite.proofs.NumberLemmas.{Has, has-here, has-later, in-filtered}
 use Rattle.wz_rewrite.proofs.BodyLemmas.{named-there}
 use Rattle.wz_init.specs.Constants.{constant_value, constant_number, constant_reference, reference_in}
 use Rattle.wz_init.specs.Allocation.{each_of, first_global, first_globals, first_element, first_elements}

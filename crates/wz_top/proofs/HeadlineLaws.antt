@@ -45,10 +45,10 @@ use Rattle.wz_rewrite.specs.Parts.{global_types, output_memories, memory_of_size
 use Rattle.wz_rewrite.specs.Output.{rewritten, rewritten_module}
 use Rattle.wz_rewrite.specs.Laws.{CanBeOutput, OutputSpells, InputSpellsElements}
 use Rattle.wz_rewrite.specs.ValidOutput.{HasTypesOf, StateHasTypes, IsValidWith, OutputIsValid, HasNoStartSection}
-use Rattle.wz_rewrite.proofs.NumberLemmas.{all-from-has}
 use Rattle.wz_rewrite.proofs.ContentLemmas.{data_bytes_held}
 use Rattle.wz_rewrite.proofs.BodyLemmas.{entries-kept, targets-kept}
 use Rattle.wz_io.specs.World.{World, Name}
+use Rattle.wz_code.proofs.NumberLemmas.{all-from-has}
 use Rattle.wz_top.specs.Devices.{IsInputFrom, HasWritten}
 use Rattle.wz_top.specs.Words.{output_name}
 use Rattle.wz_top.specs.Asked.{Asked, Answers, Delivers, asked_by, BytesAsk, SettingsAsk, OnDone, Ran}

@@ -17,6 +17,7 @@ use Rattle.wz_types.specs.declared.value.Value.TheVariants.{I32, I64, F32, F64, 
 use Rattle.wz_types.specs.FunctionType.{FunctionType}
 use Rattle.wz_types.specs.SameType.{same_type}
 use Rattle.wz_types.specs.Fits.{Fits}
+use Rattle.wz_code.proofs.NumberLemmas.{all-from-has}
 use Rattle.wz_module.specs.declared.items.ImportKind.{ImportKind}
 use Rattle.wz_module.specs.declared.items.ImportKind.TheVariants as kind
 use Rattle.wz_module.specs.Imports.{Import}
@@ -51,7 +52,6 @@ use Rattle.wz_rewrite.specs.Sections.{output_payload, renewed_elements, datas_te
 use Rattle.wz_rewrite.specs.Laws.{SpellsElements}
 use Rattle.wz_rewrite.specs.ValidOutput.{IsNotForeign, FitsGlobal, AreOfTypes}
 use Rattle.wz_rewrite.proofs.IdLemmas.{by_id}
-use Rattle.wz_rewrite.proofs.NumberLemmas.{all-from-has}
 use Rattle.wz_rewrite.proofs.BodyLemmas.{named-there}
 use Rattle.wz_rewrite.proofs.SegmentLemmas.{payload_split}
 use Rattle.wz_top.proofs.OutsideLaws.{value_in}

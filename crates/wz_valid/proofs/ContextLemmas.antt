@@ -5,9 +5,10 @@ use Rattle.wz_types.specs.declared.types.ValType.{ValType}
 use Rattle.wz_types.specs.declared.types.ValType.TheVariants.{FuncRef}
 use Rattle.wz_code.specs.declared.instr.Instr.TheVariants.{RefFunc, GlobalGet}
 use Rattle.wz_code.specs.Trees.{Code, End, Then, InBlock, InLoop, InIf, Leaf, Plain, TableBranch, TypedSelect}
+use Rattle.wz_code.specs.References.{has_number}
 use Rattle.wz_valid_code.specs.Operands.{Operands}
 use Rattle.wz_valid_code.specs.Rules.{Rule, Exchange, Leads, rule_if, rule_from}
-use Rattle.wz_valid_code.specs.Context.{TypingContext, has_number, constant_global}
+use Rattle.wz_valid_code.specs.Context.{TypingContext, constant_global}
 use Rattle.wz_valid_code.specs.ConstantInstructions.{constant_rule}
 use Rattle.wz_valid_code.specs.Typing.{LeadsToConstant}
 use Rattle.wz_valid.specs.DeclaredFunctions.{HaveSameNumbers}

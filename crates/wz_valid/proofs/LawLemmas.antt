@@ -1,10 +1,9 @@
 -- The laws that the crates above cite.
-use Rattle.std.proofs.Common.{◌≡◌, ℕ, zero, suc, ◌+◌, ◌<◌, ◌≤◌, List, [], ◌∷◌, ◌++◌, length, Option, Some, None, IsSomeAnd, ◌⊎◌, inl, inr, Bool, true, false, IsTrue, ◌&&◌, ◌==◌}
+use Rattle.std.proofs.Common.{◌≡◌, ℕ, zero, suc, ◌+◌, ◌<◌, ◌≤◌, List, [], ◌∷◌, ◌++◌, length, Option, Some, None, IsSomeAnd, ◌⊎◌, inl, inr, Bool, true, false, IsTrue, ◌&&◌}
 use Rattle.std.proofs.Common.{refl, sym, ap, subst, ◌∙◌, take, slice_get, All, arith}
-use Rattle.std.specs.Prelude.{is_some, ◌||◌}
+use Rattle.std.specs.Prelude.{is_some}
 use Rattle.std.specs.List.{flat_map}
 use Rattle.std.specs.Option.{option_to_list}
-use Rattle.std.proofs.lemmas.Bool.{eqb-true}
 use Rattle.std.proofs.lemmas.List.Elements.{All-nil, All-cons, All-head, All-tail, All-append}
 use Rattle.std.proofs.lemmas.List.Sums.{sum_by-take-le}
 use Rattle.std.proofs.lemmas.Option.{slice_get_within}
@@ -14,6 +13,8 @@ use Rattle.wz_types.specs.declared.types.TableType.{TableType}
 use Rattle.wz_types.specs.Fits.{type_of_kind}
 use Rattle.wz_code.specs.declared.instr.Instr.TheVariants.{RefFunc}
 use Rattle.wz_code.specs.Trees.{Code, End, Then, InBlock, InLoop, InIf, Leaf, Plain, TableBranch, TypedSelect}
+use Rattle.wz_code.specs.References.{has_number, referred_in_leaf, referred_in}
+use Rattle.wz_code.proofs.NumberLemmas.{Has, has-cases, one-number}
 use Rattle.wz_module.specs.declared.items.ImportKind.{ImportKind}
 use Rattle.wz_module.specs.declared.items.ImportKind.TheVariants as kind
 use Rattle.wz_module.specs.declared.items.ExportTarget.{ExportTarget}
@@ -24,9 +25,10 @@ use Rattle.wz_module.specs.Functions.{BodyTree}
 use Rattle.wz_module.specs.Globals.{GlobalDef}
 use Rattle.wz_module.specs.Elements.{ElemMode, PassiveElem, ActiveElem, DeclarativeElem, Elem}
 use Rattle.wz_module.specs.Module.{Module}
+use Rattle.wz_module.specs.References.{referred_in_mode, referred_in_segment, exported_function}
 use Rattle.wz_valid_code.specs.Operands.{Operands}
 use Rattle.wz_valid_code.specs.Rules.{Rule, rule_if, Leads}
-use Rattle.wz_valid_code.specs.Context.{TypingContext, has_number, may_refer}
+use Rattle.wz_valid_code.specs.Context.{TypingContext, may_refer}
 use Rattle.wz_valid_code.specs.ConstantInstructions.{constant_rule}
 use Rattle.wz_valid_code.specs.Typing.{LeadsToConstant, IsConstant}
 use Rattle.wz_valid.specs.declared.faults.Part.{Part}
@@ -34,13 +36,11 @@ use Rattle.wz_valid.specs.declared.faults.Part.TheVariants as part
 use Rattle.wz_valid.specs.declared.faults.OutOfProfile.TheVariants.{ImportKind as AnImport, MemoryTooLarge, TableTooLarge, TooManyLocals}
 use Rattle.wz_valid.specs.Indices.{function_import, imported_functions, imported_memories, all_functions, all_tables}
 use Rattle.wz_valid.specs.Contexts.{context_of, globals_context_of}
-use Rattle.wz_valid.specs.DeclaredFunctions.{referred_in_leaf, referred_in, referred_in_mode, referred_in_segment, exported_function}
 use Rattle.wz_valid.specs.Items.{IsImportOk, IsFunctionOk, IsBodyOk, IsTreeTyped, IsGlobalOk, IsTarget, IsExportOk, IsStartOk, IsElemModeOk, IsElemOk, IsDataModeOk}
 use Rattle.wz_valid.specs.Validity.{IsItemOk, part_rank, StandsBefore, IsFirstInvalid}
 use Rattle.wz_valid.specs.Profile.{IsFunctionImport, locals_limit, local_counts}
 use Rattle.wz_valid.specs.Laws.{StartTakesNothing, ExportsAreThere, GlobalsAreOk, ElementsAreOk, DatasAreOk, TypesAreThere, BodiesAreTyped, DeclaredAreThere}
 use Rattle.wz_valid.specs.Laws.{FirstIsOne, ValidHasNone, InsideIsNotOutside}
-use Rattle.wz_valid.proofs.TreeLemmas.{Has, has-cases}
 
 -- ---- all items of a list
 
@@ -124,12 +124,6 @@ if-fits false rule s n l = absurd l
 and-left : (a b : Bool) → IsTrue (a && b) → IsTrue a
 and-left true b h = refl
 and-left false b h = h
-
-one-number : (f g : ℕ) → Has f (g ∷ []) → f ≡ g
-one-number f g h = by (f == g) refl h where
-  by : (b : Bool) → (f == g) ≡ b → IsTrue (b || false) → f ≡ g
-  by true same h = eqb-true f g same
-  by false same h = absurd cc
 
 leaf-there : (context : TypingContext) (leaf : Leaf) (s n : Operands) → Leads (constant_rule context leaf) s n → (f : ℕ) → Has f (referred_in_leaf leaf)
     → IsTrue (is_some (slice_get context.functions f))

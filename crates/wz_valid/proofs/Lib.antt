@@ -6,4 +6,3 @@ mod ListLemmas
 mod NameLemmas
 mod PartLemmas
 mod ProfileLemmas
-mod TreeLemmas

@@ -1,8 +1,9 @@
 -- What holds of valid modules and of the profile (section 3.4 of the Core Specification), for the crates above.
 use Rattle.std.specs.Prelude.{◌≡◌, ℕ, ◌<◌, [], length, slice_get, IsTrue, IsSomeAnd, Some}
 use Rattle.std.specs.List.{All}
+use Rattle.wz_code.specs.References.{has_number}
 use Rattle.wz_module.specs.Module.{Module}
-use Rattle.wz_valid_code.specs.Context.{HasTypes, function_type, has_number}
+use Rattle.wz_valid_code.specs.Context.{HasTypes, function_type}
 use Rattle.wz_valid.specs.declared.faults.Part.{Part}
 use Rattle.wz_valid.specs.declared.faults.OutOfProfile.{OutOfProfile}
 use Rattle.wz_valid.specs.Indices.{all_functions}

@@ -5,18 +5,17 @@ ghost use Rattle.std.specs.Prelude.{OnOk, IfOk, map, [], ◌∷◌};
 ghost use Rattle.std.specs.List.{flat_map};
 ghost use Rattle.wz_code.specs.BodyParts.{block_at};
 ghost use Rattle.wz_code.specs.Trees.{tree_of};
+ghost use Rattle.wz_code.specs.References.{AddsFunctions, referred_by, referred_in};
 ghost use Rattle.wz_module.specs.Elements.{function_reference};
 ghost use Rattle.wz_module.specs.Meaning.{module_of};
 ghost use Rattle.wz_module.specs.Views.{trees_of, init_of, elem_mode_of, elem_of, global_of};
 ghost use Rattle.wz_module.specs.Views.{export_of};
-ghost use Rattle.wz_valid.specs.DeclaredFunctions.{AddsFunctions, HaveSameNumbers, declared_in};
-ghost use Rattle.wz_valid.specs.DeclaredFunctions.{exported_function};
-ghost use Rattle.wz_valid.specs.DeclaredFunctions.{referred_by, referred_in, referred_in_mode};
-ghost use Rattle.wz_valid.specs.DeclaredFunctions.{referred_in_segment};
+ghost use Rattle.wz_module.specs.References.{exported_function, referred_in_mode, referred_in_segment};
+ghost use Rattle.wz_valid.specs.DeclaredFunctions.{HaveSameNumbers, declared_in};
 
 use std::alloc::{AllocError, Global};
 use std::collections::BTreeSet;
-use wz_code::{Body, Instr, laws};
+use wz_code::{Body, Instr};
 use wz_module::{Elem, ElemItems, ElemMode, Export, ExportTarget, GlobalDef, Module};
 
 fn add_function(function: u32, declared: &mut BTreeSet<u32>) -> Result<(), AllocError>
@@ -61,7 +60,6 @@ fn add_body(body: &Body, declared: &mut BTreeSet<u32>) -> Result<(), AllocError>
         OnOk result (AddsFunctions declared.old.keys declared.new.keys more) }
 {
     // the tree of a body is its blocks, each of which is named once
-    laws::tree_of_block();
     for number in 0..body.block_count() {
         add_block(body, number, declared)?;
     }

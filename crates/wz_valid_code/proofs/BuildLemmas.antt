@@ -2,10 +2,7 @@
 use Rattle.std.proofs.Common.{◌≡◌, ◌≤◌, ◌+◌, ℕ, zero, suc, Bool, List, [], ◌∷◌, ◌++◌, Some, slice_get, get_or, length, ap, ◌∙◌, arith, if◌then◌else◌}
 use Rattle.std.proofs.lemmas.Bool.{eq-eqb}
 use Rattle.wz_code.specs.BlockRule.{times}
-
-pub times-append : (k : ℕ) (a b : List ℕ) → times k (a ++ b) ≡ times k a + times k b
-times-append k [] b = omega arith
-times-append k (n ∷ a) b = omega (arith, times-append k a b)
+use Rattle.wz_code.proofs.LawLemmas.{times-append}
 
 pub times-moved : (k : ℕ) (before now named : List ℕ) → before ≡ now ++ named → times k named + times k now ≡ times k before
 times-moved k before now named e = let r = ap (times k) e ∙ times-append k now named in omega (arith, r)

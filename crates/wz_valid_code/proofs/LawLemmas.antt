@@ -12,9 +12,10 @@ use Rattle.wz_code.specs.BodyParts.{BodyParts, block_at}
 use Rattle.wz_code.specs.BlockRule.{NamesRise}
 use Rattle.wz_code.specs.Trees.{Code, End, Then, InBlock, InLoop, InIf, Leaf, Plain, TableBranch, TypedSelect, leaf_in, tree_of, expand}
 use Rattle.wz_code.specs.Laws.{TreeOfBlock}
+use Rattle.wz_code.specs.References.{has_number}
 use Rattle.wz_valid_code.specs.Operands.{Operands, pushed}
 use Rattle.wz_valid_code.specs.Rules.{Rule, Exchange, rule_if, Leads, Lead}
-use Rattle.wz_valid_code.specs.Context.{TypingContext, Scope, Labels, shape_type, has_number, may_refer}
+use Rattle.wz_valid_code.specs.Context.{TypingContext, Scope, Labels, shape_type, may_refer}
 use Rattle.wz_valid_code.specs.Instructions.{rule_of}
 use Rattle.wz_valid_code.specs.Typing.{IsTyped, LeadsToConstant, IsConstant}
 use Rattle.wz_valid_code.specs.Blocks.{constant_rules}

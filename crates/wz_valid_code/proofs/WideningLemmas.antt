@@ -7,13 +7,15 @@ use Rattle.wz_types.specs.declared.types.ValType.TheVariants.{I32, FuncRef}
 use Rattle.wz_types.specs.declared.types.RefKind.{RefKind}
 use Rattle.wz_code.specs.declared.instr.Instr.TheVariants.{RefFunc, TableInit, ElemDrop, MemoryInit, DataDrop}
 use Rattle.wz_code.specs.Trees.{Code, End, Then, InBlock, InLoop, InIf, Leaf, Plain, TableBranch, TypedSelect}
+use Rattle.wz_code.specs.References.{has_number, referred_in_leaf, referred_in, AreIn}
+use Rattle.wz_code.proofs.NumberLemmas.{has-here, in-first, in-second}
 use Rattle.wz_valid_code.specs.Operands.{Operands, pushed}
 use Rattle.wz_valid_code.specs.Rules.{Rule, Exchange, rule_if, Leads}
-use Rattle.wz_valid_code.specs.Context.{TypingContext, Scope, Labels, shape_type, is_one_kind, has_number, may_refer}
+use Rattle.wz_valid_code.specs.Context.{TypingContext, Scope, Labels, shape_type, is_one_kind, may_refer}
 use Rattle.wz_valid_code.specs.Instructions.{rule_of}
 use Rattle.wz_valid_code.specs.ConstantInstructions.{constant_rule}
 use Rattle.wz_valid_code.specs.Typing.{IsTyped, LeadsToConstant}
-use Rattle.wz_valid_code.specs.Widening.{LeafRefers, Refers, widened, widened_scope, TypingWidens, ConstantWidens}
+use Rattle.wz_valid_code.specs.Widening.{widened, widened_scope, TypingWidens, ConstantWidens}
 use Rattle.wz_valid_code.proofs.LawLemmas.{if-more, some-more}
 
 if-inner : (a : Bool) (rule other : Rule) (s m : Operands) → (Leads rule s m → Leads other s m) → Leads (rule_if a rule) s m → Leads (rule_if a other) s m
@@ -39,11 +41,13 @@ below-more : (i n m : ℕ) → n ≤ m → IsTrue (nat_lt i n) → IsTrue (nat_l
 below-more i n m le h = let less = ltb-true i n h in lt-ltb i m (omega (arith, le, less))
 
 leaf-wider : (scope : Scope) (more : List RefKind) (datas : ℕ) (declared : List ℕ) → scope.context.datas ≤ datas
-    → (labels : Labels) (leaf : Leaf) (s m : Operands) → LeafRefers declared leaf → Leads (rule_of scope labels leaf) s m
+    → (labels : Labels) (leaf : Leaf) (s m : Operands) → AreIn (referred_in_leaf leaf) declared → Leads (rule_of scope labels leaf) s m
     → Leads (rule_of (widened_scope scope more datas declared) labels leaf) s m
 leaf-wider scope more datas declared few labels (Plain (RefFunc function)) s m refers l =
-    if-more (may_refer scope.context function) (is_some (slice_get scope.context.functions function) && has_number function declared) (Exchange [] (FuncRef ∷ [])) s m
-    (and-other (is_some (slice_get scope.context.functions function)) (has_number function scope.context.declared) (has_number function declared) refers) l
+    let is_function = is_some (slice_get scope.context.functions function) in
+    let was = has_number function scope.context.declared in
+    let now = has_number function declared in
+    if-more (may_refer scope.context function) (is_function && now) (Exchange [] (FuncRef ∷ [])) s m (and-other is_function was now (refers function (has-here function []))) l
 leaf-wider scope more datas declared few labels (Plain (TableInit segment table)) s m refers l =
     if-more (is_one_kind (slice_get scope.context.elements segment) (slice_get scope.context.tables table))
     (is_one_kind (slice_get (scope.context.elements ++ more) segment) (slice_get scope.context.tables table))
@@ -62,26 +66,36 @@ leaf-wider scope more datas declared few labels (TableBranch numbers last) s m r
 leaf-wider scope more datas declared few labels (TypedSelect types) s m refers l = l
 
 module _ (scope : Scope) (more : List RefKind) (datas : ℕ) (declared : List ℕ) (few : scope.context.datas ≤ datas) where
-  code-wider : (labels : Labels) (code : Code) (s : Operands) (after : List ValType) → Refers declared code → IsTyped scope labels code s after
+  code-wider : (labels : Labels) (code : Code) (s : Operands) (after : List ValType) → AreIn (referred_in code) declared → IsTyped scope labels code s after
       → IsTyped (widened_scope scope more datas declared) labels code s after
   code-wider labels End s after r t = t
-  code-wider labels (Then leaf rest) s after r t = (t.0, leaf-wider scope more datas declared few labels leaf s t.0 r.0 t.1, code-wider labels rest t.0 after r.1 t.2)
+  code-wider labels (Then leaf rest) s after r t =
+      let one = in-first (referred_in_leaf leaf) (referred_in rest) declared r in
+      let other = in-second (referred_in_leaf leaf) (referred_in rest) declared r in
+      (t.0, leaf-wider scope more datas declared few labels leaf s t.0 one t.1, code-wider labels rest t.0 after other t.2)
   code-wider labels (InBlock shape inner rest) s after r t =
+      let one = in-first (referred_in inner) (referred_in rest) declared r in
+      let other = in-second (referred_in inner) (referred_in rest) declared r in
       some-more (shape_type scope.context shape) _ _ (λ type p. (
-        code-wider (type.results ∷ labels) inner (pushed type.params []) type.results r.0 p.0,
-        (p.1.0, p.1.1, code-wider labels rest p.1.0 after r.1 p.1.2),
+        code-wider (type.results ∷ labels) inner (pushed type.params []) type.results one p.0,
+        (p.1.0, p.1.1, code-wider labels rest p.1.0 after other p.1.2),
       )) t
   code-wider labels (InLoop shape inner rest) s after r t =
+      let one = in-first (referred_in inner) (referred_in rest) declared r in
+      let other = in-second (referred_in inner) (referred_in rest) declared r in
       some-more (shape_type scope.context shape) _ _ (λ type p. (
-        code-wider (type.params ∷ labels) inner (pushed type.params []) type.results r.0 p.0,
-        (p.1.0, p.1.1, code-wider labels rest p.1.0 after r.1 p.1.2),
+        code-wider (type.params ∷ labels) inner (pushed type.params []) type.results one p.0,
+        (p.1.0, p.1.1, code-wider labels rest p.1.0 after other p.1.2),
       )) t
   code-wider labels (InIf shape first second rest) s after r t =
+      let one = in-first (referred_in first) (referred_in second ++ referred_in rest) declared r in
+      let others = in-second (referred_in first) (referred_in second ++ referred_in rest) declared r in
+      let other = in-first (referred_in second) (referred_in rest) declared others in
+      let last = in-second (referred_in second) (referred_in rest) declared others in
       some-more (shape_type scope.context shape) _ _ (λ type p. (
-        code-wider (type.results ∷ labels) first (pushed type.params []) type.results r.0 p.0,
-        code-wider
-            (type.results ∷ labels) second (pushed type.params []) type.results r.1 p.1,
-        (p.2.0, p.2.1, code-wider labels rest p.2.0 after r.2 p.2.2),
+        code-wider (type.results ∷ labels) first (pushed type.params []) type.results one p.0,
+        code-wider (type.results ∷ labels) second (pushed type.params []) type.results other p.1,
+        (p.2.0, p.2.1, code-wider labels rest p.2.0 after last p.2.2),
       )) t
 
 pub typing_widens : TypingWidens
@@ -89,22 +103,24 @@ typing_widens scope more datas declared few labels code before after refers type
 
 -- ---- constant expressions
 
-constant-leaf-wider : (context : TypingContext) (more : List RefKind) (datas : ℕ) (declared : List ℕ) (leaf : Leaf) (s m : Operands) → LeafRefers declared leaf
+constant-leaf-wider : (context : TypingContext) (more : List RefKind) (datas : ℕ) (declared : List ℕ) (leaf : Leaf) (s m : Operands) → AreIn (referred_in_leaf leaf) declared
     → Leads (constant_rule context leaf) s m → Leads (constant_rule (widened context more datas declared) leaf) s m
 constant-leaf-wider context more datas declared (Plain (RefFunc function)) s m refers l =
     let is_function = is_some (slice_get context.functions function) in
     let was = has_number function context.declared in
     let now = has_number function declared in
-    if-more (may_refer context function) (is_function && now) (Exchange [] (FuncRef ∷ [])) s m (and-other is_function was now refers) l
+    if-more (may_refer context function) (is_function && now) (Exchange [] (FuncRef ∷ [])) s m (and-other is_function was now (refers function (has-here function []))) l
 constant-leaf-wider context more datas declared (Plain instr) s m refers l = l
 constant-leaf-wider context more datas declared (TableBranch numbers last) s m refers l = l
 constant-leaf-wider context more datas declared (TypedSelect types) s m refers l = l
 
-leads-wider : (context : TypingContext) (more : List RefKind) (datas : ℕ) (declared : List ℕ) (code : Code) (s : Operands) (type : ValType) → Refers declared code
+leads-wider : (context : TypingContext) (more : List RefKind) (datas : ℕ) (declared : List ℕ) (code : Code) (s : Operands) (type : ValType) → AreIn (referred_in code) declared
     → LeadsToConstant context code s type → LeadsToConstant (widened context more datas declared) code s type
 leads-wider context more datas declared End s type refers t = t
 leads-wider context more datas declared (Then leaf rest) s type refers t =
-    (t.0, constant-leaf-wider context more datas declared leaf s t.0 refers.0 t.1, leads-wider context more datas declared rest t.0 type refers.1 t.2)
+    let one = in-first (referred_in_leaf leaf) (referred_in rest) declared refers in
+    let other = in-second (referred_in_leaf leaf) (referred_in rest) declared refers in
+    (t.0, constant-leaf-wider context more datas declared leaf s t.0 one t.1, leads-wider context more datas declared rest t.0 type other t.2)
 leads-wider context more datas declared (InBlock shape inner rest) s type refers t = absurd t
 leads-wider context more datas declared (InLoop shape inner rest) s type refers t = absurd t
 leads-wider context more datas declared (InIf shape first second rest) s type refers t = absurd t

@@ -1,6 +1,5 @@
 -- Section 3.1 of the Core Specification: what instructions may name, each with its type.
-use Rattle.std.specs.Prelude.{is_some, ℕ, ◌<◌, List, [], ◌∷◌, ◌++◌, Option, Some, None, Bool, true, false, ◌==◌, ◌&&◌, if◌then◌else◌, nat_lt, slice_get, length, replicate, All}
-use Rattle.std.specs.List.{list_any}
+use Rattle.std.specs.Prelude.{is_some, ℕ, ◌<◌, List, [], ◌∷◌, ◌++◌, Option, Some, None, Bool, true, false, ◌&&◌, if◌then◌else◌, nat_lt, slice_get, length, replicate, All}
 use Rattle.wz_types.specs.declared.types.ValType.{ValType}
 use Rattle.wz_types.specs.declared.types.RefKind.{RefKind}
 use Rattle.wz_types.specs.declared.types.RefKind.TheVariants as kind
@@ -9,6 +8,7 @@ use Rattle.wz_types.specs.FunctionType.{FunctionType}
 use Rattle.wz_types.specs.SameType.{same_kind}
 use Rattle.wz_code.specs.declared.instr.Shape.{Shape}
 use Rattle.wz_code.specs.declared.instr.Shape.TheVariants.{Empty, One, Index}
+use Rattle.wz_code.specs.References.{has_number}
 
 -- What a module has, imports first; beside each part what it is of the standard's context C. What a run changes, as the sizes of
 -- tables and memories, is no part of it.
@@ -83,9 +83,6 @@ if_constant (Some global) = if global.mutable then None else Some global.value
 -- the type of a global that a constant expression may read: an imported one that is never set
 abbrev pub constant_global : TypingContext → ℕ → Option ValType
 constant_global context index = if nat_lt index context.imported_globals then if_constant (slice_get context.globals index) else None
-
-abbrev pub has_number : ℕ → List ℕ → Bool
-has_number number numbers = list_any (λ other. number == other) numbers
 
 -- a function that is there, and of which a reference may be made
 abbrev pub may_refer : TypingContext → ℕ → Bool

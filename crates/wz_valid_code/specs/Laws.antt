@@ -5,9 +5,10 @@ use Rattle.wz_code.specs.BodyParts.{BodyParts, block_at}
 use Rattle.wz_code.specs.BlockRule.{NamesRise}
 use Rattle.wz_code.specs.declared.instr.Instr.TheVariants.{I32Const, I64Const, F32Const, F64Const}
 use Rattle.wz_code.specs.Trees.{Code, Leaf, Plain, leaf_in, tree_of}
+use Rattle.wz_code.specs.References.{has_number}
 use Rattle.wz_valid_code.specs.Operands.{Operands}
 use Rattle.wz_valid_code.specs.Rules.{Leads, Lead}
-use Rattle.wz_valid_code.specs.Context.{TypingContext, Scope, Labels, has_number}
+use Rattle.wz_valid_code.specs.Context.{TypingContext, Scope, Labels}
 use Rattle.wz_valid_code.specs.Instructions.{rule_of}
 use Rattle.wz_valid_code.specs.ConstantInstructions.{constant_rule}
 use Rattle.wz_valid_code.specs.Typing.{IsTyped}

@@ -1,7 +1,8 @@
 //! What instructions may name (Core Specification 2.0, section 3.1).
 
 ghost use Rattle.std.specs.Prelude.{◌≡◌, [], ◌∷◌, slice_get, nat_lt};
-ghost use Rattle.wz_valid_code.specs.Context.{TypingContext, shape_type, type_by_number, function_type, is_function_kind, is_one_kind, has_number, may_refer, type_to_set, constant_global};
+ghost use Rattle.wz_code.specs.References.{has_number};
+ghost use Rattle.wz_valid_code.specs.Context.{TypingContext, shape_type, type_by_number, function_type, is_function_kind, is_one_kind, may_refer, type_to_set, constant_global};
 
 use std::collections::BTreeSet;
 use std::marker::Model;

@@ -1,9 +1,9 @@
 //! Bodies and expressions, typed and untyped, each put together from a list of items.
 
-ghost use Rattle.std.specs.Prelude.{◌≡◌, ◌≤◌, ◌<◌, ◌+◌, ◌++◌, ◌∷◌, [], length, IsTrue, IfOk, IfSome, OnOk, ℕ, List};
+ghost use Rattle.std.specs.Prelude.{◌≡◌, ◌≤◌, ◌<◌, ◌+◌, ◌++◌, ◌∷◌, [], length, IsTrue, IfOk, IfSome, OnOk, ℕ, List, All};
 ghost use Rattle.wz_types.specs.declared.types.ValType.{ValType};
 ghost use Rattle.wz_code.specs.BodyParts.{item_count};
-ghost use Rattle.wz_code.specs.BlockRule.{Every, named, InPools, IsBuilding};
+ghost use Rattle.wz_code.specs.BlockRule.{named, InPools, IsBuilding};
 
 use crate::body::{BodyFault, check_body};
 use crate::constant::check_constant;
@@ -37,7 +37,7 @@ fn names_none(instr: Instr) -> bool
 
 /// Whether the blocks that it names are later ones.
 fn names_later(top: u32, instr: Instr) -> bool
-    ensures { IsTrue result → Every (λ k. top < k) (named instr) }
+    ensures { IsTrue result → All (λ k. top < k) (named instr) }
 {
     match instr {
         Instr::Block { body, .. } => top < body,

@@ -1,7 +1,7 @@
 use Rattle.std.proofs.Common.{take}
 use Rattle.std.specs.List.{flat_map}
 use Rattle.wz_code.specs.Trees.{tree_of}
-use Rattle.wz_valid.specs.DeclaredFunctions.{AddsFunctions, referred_in}
+use Rattle.wz_code.specs.References.{AddsFunctions, referred_in}
 use Rattle.wz_valid.proofs.declared.add_bodies.Given as goal
 
 abbrev pub invariant-loop-body : goal.invariant-loop-body

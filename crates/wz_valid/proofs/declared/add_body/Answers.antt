@@ -9,5 +9,5 @@ loop-number-preserved c =
 
 pub returns : goal.returns
 returns c =
-    adds_body c.tree_of_block.ensures c.args.body.now c.block_count-number-end.ensures.kept.rule c.loop-number.number c.args.declared.now.keys c.loop-number.declared.keys
+    adds_body c.args.body.now c.block_count-number-end.ensures.kept.rule c.loop-number.number c.args.declared.now.keys c.loop-number.declared.keys
     (omega (arith, c.block_count-number-end.ensures.count)) c.loop-number.invariant

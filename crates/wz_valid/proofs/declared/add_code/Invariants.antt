@@ -1,6 +1,6 @@
 use Rattle.std.proofs.Common.{take}
 use Rattle.std.specs.List.{flat_map}
-use Rattle.wz_valid.specs.DeclaredFunctions.{AddsFunctions, referred_by}
+use Rattle.wz_code.specs.References.{AddsFunctions, referred_by}
 use Rattle.wz_valid.proofs.declared.add_code.Given as goal
 
 abbrev pub invariant-loop-instr : goal.invariant-loop-instr

@@ -1,7 +1,7 @@
 use Rattle.std.proofs.Common.{arith}
+use Rattle.wz_code.proofs.NumberLemmas.{adds_mapped}
 use Rattle.wz_module.specs.Views.{export_of}
-use Rattle.wz_valid.specs.DeclaredFunctions.{exported_function}
-use Rattle.wz_valid.proofs.DeclaredLemmas.{adds_mapped}
+use Rattle.wz_module.specs.References.{exported_function}
 use Rattle.wz_valid.proofs.declared.add_exports.Goals as goal
 
 pub returns : goal.returns

@@ -1,6 +1,7 @@
 use Rattle.std.proofs.Common.{take}
 use Rattle.std.specs.List.{flat_map}
-use Rattle.wz_valid.specs.DeclaredFunctions.{AddsFunctions, exported_function}
+use Rattle.wz_code.specs.References.{AddsFunctions}
+use Rattle.wz_module.specs.References.{exported_function}
 use Rattle.wz_valid.proofs.declared.add_exports.Given as goal
 
 abbrev pub invariant-loop-export : goal.invariant-loop-export

@@ -1,4 +1,4 @@
-use Rattle.wz_valid.proofs.DeclaredLemmas.{adds_one}
+use Rattle.wz_code.proofs.NumberLemmas.{adds_one}
 use Rattle.wz_valid.proofs.declared.add_function.Goals as goal
 
 pub returns : goal.returns

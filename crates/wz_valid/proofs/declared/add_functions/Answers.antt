@@ -1,10 +1,12 @@
-use Rattle.std.proofs.Common.{ℕ, List, [], ◌∷◌, subst, arith}
-use Rattle.wz_valid.specs.DeclaredFunctions.{AddsFunctions}
-use Rattle.wz_valid.proofs.DeclaredLemmas.{adds_all, functions-refer}
+use Rattle.std.proofs.Common.{ℕ, List, [], ◌∷◌, subst, sym, arith}
+use Rattle.std.proofs.lemmas.List.Folds.{flat_map-map}
+use Rattle.wz_code.specs.References.{AddsFunctions, referred_in}
+use Rattle.wz_code.proofs.NumberLemmas.{adds_all}
+use Rattle.wz_module.specs.Elements.{function_reference}
 use Rattle.wz_valid.proofs.declared.add_functions.Goals as goal
 
 pub returns : goal.returns
 returns c =
-    subst (λ (more : List ℕ). AddsFunctions c.args.declared.now.keys c.loop-function.declared.keys more) (functions-refer c.args.functions.now)
+    subst (λ (more : List ℕ). AddsFunctions c.args.declared.now.keys c.loop-function.declared.keys more) (sym (flat_map-map referred_in function_reference c.args.functions.now))
     (adds_all (λ (n : ℕ). n ∷ []) c.args.functions.now c.loop-function.function-index
     c.args.declared.now.keys c.loop-function.declared.keys (omega arith) c.loop-function.invariant)

@@ -1,6 +1,6 @@
 use Rattle.std.proofs.Common.{take, ◌∷◌, []}
 use Rattle.std.specs.List.{flat_map}
-use Rattle.wz_valid.specs.DeclaredFunctions.{AddsFunctions}
+use Rattle.wz_code.specs.References.{AddsFunctions}
 use Rattle.wz_valid.proofs.declared.add_functions.Given as goal
 
 abbrev pub invariant-loop-function : goal.invariant-loop-function

@@ -1,7 +1,7 @@
 use Rattle.std.proofs.Common.{arith}
+use Rattle.wz_code.specs.References.{referred_in}
+use Rattle.wz_code.proofs.NumberLemmas.{adds_mapped}
 use Rattle.wz_module.specs.Views.{global_of}
-use Rattle.wz_valid.specs.DeclaredFunctions.{referred_in}
-use Rattle.wz_valid.proofs.DeclaredLemmas.{adds_mapped}
 use Rattle.wz_valid.proofs.declared.add_globals.Goals as goal
 
 pub returns : goal.returns

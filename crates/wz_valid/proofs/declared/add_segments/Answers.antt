@@ -1,7 +1,7 @@
 use Rattle.std.proofs.Common.{arith}
+use Rattle.wz_code.proofs.NumberLemmas.{adds_mapped}
 use Rattle.wz_module.specs.Views.{elem_of}
-use Rattle.wz_valid.specs.DeclaredFunctions.{referred_in_segment}
-use Rattle.wz_valid.proofs.DeclaredLemmas.{adds_mapped}
+use Rattle.wz_module.specs.References.{referred_in_segment}
 use Rattle.wz_valid.proofs.declared.add_segments.Goals as goal
 
 pub returns : goal.returns

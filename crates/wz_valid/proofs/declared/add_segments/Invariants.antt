@@ -1,7 +1,8 @@
 use Rattle.std.proofs.Common.{take}
 use Rattle.std.specs.List.{flat_map}
+use Rattle.wz_code.specs.References.{AddsFunctions}
 use Rattle.wz_module.specs.Views.{elem_of}
-use Rattle.wz_valid.specs.DeclaredFunctions.{AddsFunctions, referred_in_segment}
+use Rattle.wz_module.specs.References.{referred_in_segment}
 use Rattle.wz_valid.proofs.declared.add_segments.Given as goal
 
 abbrev pub invariant-loop-segment : goal.invariant-loop-segment

@@ -1,10 +1,11 @@
 use Rattle.std.proofs.Common.{ℕ, List, subst}
 use Rattle.std.specs.List.{flat_map}
+use Rattle.wz_code.specs.References.{AddsFunctions, referred_in}
 use Rattle.wz_module.specs.Exports.{Export}
 use Rattle.wz_module.specs.Globals.{GlobalDef}
 use Rattle.wz_module.specs.Elements.{Elem}
 use Rattle.wz_module.specs.Meaning.{module_of}
-use Rattle.wz_valid.specs.DeclaredFunctions.{AddsFunctions, referred_in, referred_in_segment, exported_function}
+use Rattle.wz_module.specs.References.{referred_in_segment, exported_function}
 use Rattle.wz_valid.proofs.DeclaredLemmas.{declared_by}
 use Rattle.wz_valid.proofs.declared.declared_functions.Goals as goal
 

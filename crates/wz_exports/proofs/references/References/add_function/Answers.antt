@@ -1,4 +1,4 @@
-use Rattle.wz_exports.proofs.RefLemmas.{adds_one}
+use Rattle.wz_code.proofs.NumberLemmas.{adds_one}
 use Rattle.wz_exports.proofs.references.References.add_function.Goals as goal
 
 pub returns-clause-added : goal.returns-clause-added

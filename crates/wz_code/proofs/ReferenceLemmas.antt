@@ -1,59 +1,23 @@
--- The references that a body's tree makes are those of its instructions, block by block.
-use Rattle.std.proofs.Common.{◌≡◌, ℕ, zero, suc, ◌+◌, ◌<◌, ◌≤◌, List, [], ◌∷◌, ◌++◌, length, Option, Some, None, ◌⊎◌, inl, inr, Bool, true, false, IsTrue, cond, refl, sym, ap}
-use Rattle.std.proofs.Common.{subst, ◌∙◌, append-nil, append_assoc, unwrap_or, arith, ◌==◌}
-use Rattle.std.specs.Prelude.{◌||◌}
+-- The references that a body's tree makes are those of its instructions, block by block. Proofs of other crates may cite this file.
+use Rattle.std.proofs.Common.{◌≡◌, ℕ, zero, suc, ◌+◌, ◌<◌, ◌≤◌, List, [], ◌∷◌, ◌++◌, length, Option, Some, None, ◌⊎◌, inl, inr, Bool, true, false, cond, refl, sym, ap}
+use Rattle.std.proofs.Common.{subst, ◌∙◌, append-nil, append_assoc, unwrap_or, arith, ◌==◌, All}
+use Rattle.std.specs.Cmp.{both_ways}
 use Rattle.std.specs.List.{flat_map}
-use Rattle.std.proofs.lemmas.List.Folds.{list_any-append}
 use Rattle.std.proofs.lemmas.List.Concat.{flat_map-append}
+use Rattle.std.proofs.lemmas.List.Elements.{All-nil, All-head, All-tail}
 use Rattle.std.proofs.lemmas.Option.{slice_get_past}
-use Rattle.std.proofs.lemmas.Bool.{lt-ltb, eqb-true}
+use Rattle.std.proofs.lemmas.Bool.{eqb-true}
 use Rattle.wz_types.specs.declared.types.ValType.{ValType}
 use Rattle.wz_code.specs.declared.instr.Instr.{Instr}
 use Rattle.wz_code.specs.declared.instr.Instr.TheVariants.{Block, Loop, If}
 use Rattle.wz_code.specs.BodyParts.{Blocks, BodyParts, block_at}
-use Rattle.wz_code.specs.BlockRule.{Every, named, Names, times, namings, all_namings, BlockRule}
+use Rattle.wz_code.specs.BlockRule.{named, Names, times, namings, BlockRule}
 use Rattle.wz_code.specs.Trees.{Code, leaf_of, headed, expand, tree_of}
-use Rattle.wz_code.specs.Laws.{TreeOfBlock}
 use Rattle.wz_code.specs.Walking.{in_order}
-use Rattle.wz_valid_code.specs.Context.{has_number}
-use Rattle.wz_valid.specs.DeclaredFunctions.{referred_by, referred_in}
-
--- ---- numbers in lists
-
--- a list has the number
-abbrev pub Has : ℕ → List ℕ → Type 0
-Has f xs = IsTrue (has_number f xs)
-
-or-cases : (a b : Bool) → IsTrue (a || b) → IsTrue a ⊎ IsTrue b
-or-cases true b h = inl h
-or-cases false b h = inr h
-
-or-first : (a b : Bool) → IsTrue a → IsTrue (a || b)
-or-first true b h = h
-or-first false b h = absurd cc
-
-or-second : (a b : Bool) → IsTrue b → IsTrue (a || b)
-or-second true b h = refl
-or-second false b h = h
-
-pub has-append : (f : ℕ) (xs ys : List ℕ) → has_number f (xs ++ ys) ≡ (has_number f xs || has_number f ys)
-has-append f xs ys = list_any-append (λ other. f == other) xs ys
-
-pub has-cases : (f : ℕ) (xs ys : List ℕ) → Has f (xs ++ ys) → Has f xs ⊎ Has f ys
-has-cases f xs ys h = or-cases (has_number f xs) (has_number f ys) (subst (λ (b : Bool). IsTrue b) (has-append f xs ys) h)
-
-has-first : (f : ℕ) (xs ys : List ℕ) → Has f xs → Has f (xs ++ ys)
-has-first f xs ys h = subst (λ (b : Bool). IsTrue b) (sym (has-append f xs ys)) (or-first (has_number f xs) (has_number f ys) h)
-
-has-second : (f : ℕ) (xs ys : List ℕ) → Has f ys → Has f (xs ++ ys)
-has-second f xs ys h = subst (λ (b : Bool). IsTrue b) (sym (has-append f xs ys)) (or-second (has_number f xs) (has_number f ys) h)
-
-other_number : (k : ℕ) → 0 < k → times k (0 ∷ []) ≡ 0
-other_number zero more = absurd (omega (arith, more))
-other_number (suc k) more = by (0 == suc k) refl where
-  by : (b : Bool) → (0 == suc k) ≡ b → cond b 1 0 + 0 ≡ 0
-  by true same = let e : 0 ≡ suc k = eqb-true 0 (suc k) same in absurd (omega (arith, e))
-  by false same = omega arith
+use Rattle.wz_code.specs.References.{has_number, referred_by, referred_in}
+use Rattle.wz_code.proofs.LawLemmas.{tree_of_block}
+use Rattle.wz_code.proofs.NamingLemmas.{names-such, naming-block, once-named}
+use Rattle.wz_code.proofs.NumberLemmas.{Has, has-cases, has-first, has-second}
 
 -- ---- one instruction
 
@@ -79,10 +43,13 @@ module _ (labels : List ℕ) (types : List ValType) (inner : ℕ → Code) (f : 
   abbrev Holds : ℕ → Type 0
   Holds k = Has f (referred_in (inner k))
 
-  named-has : (Is : ℕ → Type 0) (ks : List ℕ) → Every Is ks → Has f (flat_map (λ k. referred_in (inner k)) ks) → (k : ℕ) × Is k × Holds k
+  named-has : (Is : ℕ → Type 0) (ks : List ℕ) → All Is ks → Has f (flat_map (λ k. referred_in (inner k)) ks) → (k : ℕ) × Is k × Holds k
   named-has Is [] every h = absurd cc
   named-has Is (k ∷ ks) every h =
-      elim (has-cases f (referred_in (inner k)) (flat_map (λ k. referred_in (inner k)) ks) h) [ inl here ↦ (k, every.0, here) | inr later ↦ named-has Is ks every.1 later ]
+      elim (has-cases f (referred_in (inner k)) (flat_map (λ k. referred_in (inner k)) ks) h) [
+        | inl here ↦ (k, All-head Is k ks every, here)
+        | inr later ↦ named-has Is ks (All-tail Is k ks every) later
+      ]
 
   -- a reference of the tree is made by one of the instructions, or in a block that they name
   tree-cases : (Is : ℕ → Type 0) (code : List Instr) → Names Is code → Has f (referred_in (expand (leaf_of labels types) inner code))
@@ -91,14 +58,15 @@ module _ (labels : List ℕ) (types : List ValType) (inner : ℕ → Code) (f : 
   tree-cases Is (instr ∷ code) names h =
       let rest = expand (leaf_of labels types) inner code in
       let inside = flat_map (λ k. referred_in (inner k)) (named instr) in
+      let Such : Instr → Type 0 = λ i. All Is (named i) in
       let split = subst (λ (xs : List ℕ). Has f xs) (headed-refers labels types inner instr rest) h in
       let own : Has f (own_references code) → Has f (own_references (instr ∷ code)) = has-second f (referred_by instr) (own_references code) in
       elim (has-cases f (referred_by instr) (inside ++ referred_in rest) split) [
         | inl here ↦ inl (has-first f (referred_by instr) (own_references code) here)
         | inr more ↦
             elim (has-cases f inside (referred_in rest) more) [
-              | inl within ↦ inr (named-has Is (named instr) names.0 within)
-              | inr later ↦ elim (tree-cases Is code names.1 later) [ inl found ↦ inl (own found) | inr block ↦ inr block ]
+              | inl within ↦ inr (named-has Is (named instr) (All-head Such instr code names) within)
+              | inr later ↦ elim (tree-cases Is code (All-tail Such instr code names) later) [ inl found ↦ inl (own found) | inr block ↦ inr block ]
             ]
       ]
 
@@ -140,30 +108,6 @@ module _ (labels : List ℕ) (types : List ValType) (inner : ℕ → Code) (f : 
             has-first f (flat_map (λ k. referred_in (inner k)) (named instr)) (referred_in (expand (leaf_of labels types) inner code))
             (has-named k (named instr) (omega (arith, here)) h)
 
--- ---- which block names another
-
-every-named : (Is : ℕ → Type 0) (k : ℕ) (ks : List ℕ) → Every Is ks → 1 ≤ times k ks → Is k
-every-named Is k [] every some = absurd (omega (arith, some))
-every-named Is k (n ∷ ks) every some = by (n == k) refl some (λ few. every-named Is k ks every.1 few) where
-  by : (b : Bool) → (n == k) ≡ b → 1 ≤ cond b 1 0 + times k ks → (1 ≤ times k ks → Is k) → Is k
-  by true same few later = subst Is (eqb-true n k same) every.0
-  by false same few later = later (omega (arith, few))
-
-names-such : (Is : ℕ → Type 0) (k : ℕ) (code : List Instr) → Names Is code → 1 ≤ namings k code → Is k
-names-such Is k [] names some = absurd (omega (arith, some))
-names-such Is k (instr ∷ code) names some = by (times k (named instr)) refl (λ few. names-such Is k code names.1 few) where
-  by : (n : ℕ) → times k (named instr) ≡ n → (1 ≤ namings k code → Is k) → Is k
-  by zero none later = later (omega (arith, some, none))
-  by (suc n) here later = every-named Is k (named instr) names.0 (omega (arith, here))
-
--- a block that is named is named in one of the blocks
-naming-block : (k : ℕ) (blocks : Blocks) → 1 ≤ all_namings k blocks → (j : ℕ) × (1 ≤ namings k (block_at blocks j))
-naming-block k [] some = absurd (omega (arith, some))
-naming-block k (block ∷ blocks) some = by (namings k block) refl (λ few. naming-block k blocks few) where
-  by : (n : ℕ) → namings k block ≡ n → (1 ≤ all_namings k blocks → (j : ℕ) × (1 ≤ namings k (block_at blocks j))) → (j : ℕ) × (1 ≤ namings k (block_at (block ∷ blocks) j))
-  by zero none later = let found = later (omega (arith, some, none)) in (suc found.0, found.1)
-  by (suc n) here later = (0, omega (arith, here))
-
 -- ---- all blocks
 
 abbrev all_own : Blocks → List ℕ
@@ -187,19 +131,19 @@ block-of f (block ∷ blocks) h =
       | inr later ↦ let found = block-of f blocks later in (suc found.0, omega (arith, found.1), found.2)
     ]
 
-module _ (law : TreeOfBlock) (body : BodyParts) (rule : BlockRule body) (f : ℕ) where
+module _ (body : BodyParts) (rule : BlockRule body) (f : ℕ) where
   abbrev At : ℕ → Type 0
   At k = Has f (referred_in (tree_of body k))
 
   opened : (k : ℕ) → At k → Has f (referred_in (expand (leaf_of body.labels body.types) (λ j. tree_of body j) (block_at body.blocks k)))
-  opened k h = subst (λ (code : Code). Has f (referred_in code)) (law body k rule.names_rise) h
+  opened k h = subst (λ (code : Code). Has f (referred_in code)) (tree_of_block body k rule.names_rise) h
 
   closed : (k : ℕ) → Has f (referred_in (expand (leaf_of body.labels body.types) (λ j. tree_of body j) (block_at body.blocks k))) → At k
-  closed k h = subst (λ (code : Code). Has f (referred_in code)) (sym (law body k rule.names_rise)) h
+  closed k h = subst (λ (code : Code). Has f (referred_in code)) (sym (tree_of_block body k rule.names_rise)) h
 
   past-none : (k : ℕ) → length body.blocks ≤ k → Names (λ j. ⊥) (block_at body.blocks k)
   past-none k past =
-      subst (λ (o : Option (List Instr)). Names (λ j. ⊥) (unwrap_or o [])) (sym (slice_get_past body.blocks k past)) tt
+      subst (λ (o : Option (List Instr)). Names (λ j. ⊥) (unwrap_or o [])) (sym (slice_get_past body.blocks k past)) (All-nil (λ (i : Instr). All (λ j. ⊥) (named i)))
 
   in-blocks : (n k : ℕ) → length body.blocks ≤ k + n → At k → Has f (all_own body.blocks)
   in-blocks zero k past h =
@@ -213,19 +157,11 @@ module _ (law : TreeOfBlock) (body : BodyParts) (rule : BlockRule body) (f : ℕ
         | inr found ↦ in-blocks n found.0 (omega (arith, past, found.1)) found.2
       ]
 
-  once-named : (k : ℕ) → 0 < k → k < length body.blocks → 1 ≤ all_namings k body.blocks
-  once-named k more less =
-      let e = rule.once.each k in
-      let t = lt-ltb k (length body.blocks) less in
-      let other : times k (0 ∷ []) ≡ 0 = other_number k more in
-      let one = ap (λ (b : Bool). cond {A = ℕ} b 1 0) t in
-      omega (arith, e, other, one)
-
   to-root : (n k : ℕ) → k < n → k < length body.blocks → At k → At 0
   to-root zero k less there h = absurd (omega (arith, less))
   to-root (suc n) zero less there h = h
   to-root (suc n) (suc k) less there h =
-      let namer = naming-block (suc k) body.blocks (once-named (suc k) (omega arith) there) in
+      let namer = naming-block (suc k) body.blocks (once-named body.blocks (suc k) rule.once (omega arith) there) in
       let lower : namer.0 < suc k = names-such (λ j. namer.0 < j) (suc k) (block_at body.blocks namer.0) (rule.names_rise.each namer.0) namer.1 in
       to-root n namer.0 (omega (arith, less, lower)) (omega (arith, there, lower))
       (closed namer.0 (named-in-tree body.labels body.types (λ j. tree_of body j) f (suc k) (block_at body.blocks namer.0) namer.1 h))
@@ -236,14 +172,8 @@ module _ (law : TreeOfBlock) (body : BodyParts) (rule : BlockRule body) (f : ℕ
       to-root (suc found.0) found.0 (omega arith) found.1
       (closed found.0 (own-in-tree body.labels body.types (λ j. tree_of body j) f (block_at body.blocks found.0) found.2))
 
-  same-tests : (a b : Bool) → (IsTrue a → IsTrue b) → (IsTrue b → IsTrue a) → a ≡ b
-  same-tests true true there back = refl
-  same-tests true false there back = sym (there refl)
-  same-tests false true there back = back refl
-  same-tests false false there back = refl
-
   -- a body refers to what the instructions of its blocks refer to
   pub tree-refers : has_number f (referred_in (tree_of body 0)) ≡ has_number f (own_references (in_order body.blocks))
   tree-refers =
-      same-tests (has_number f (referred_in (tree_of body 0))) (has_number f (all_own body.blocks))
+      both_ways (has_number f (referred_in (tree_of body 0))) (has_number f (all_own body.blocks))
       (λ h. in-blocks (length body.blocks) 0 (omega arith) h) in-tree
