@@ -1,6 +1,6 @@
 //! The memory, seen as the list of its bytes.
 
-ghost use Rattle.std.specs.Prelude.{◌≡◌, ◌+◌, ◌*◌, ◌^◌, ◌<◌, ◌≤◌, ◌++◌, length, replicate, IsTrue, IfSome, IfOk, OnOk, OnErr, SomeIff, ◌↔◌};
+ghost use Rattle.std.specs.Prelude.{◌≡◌, ◌+◌, ◌*◌, ◌^◌, ◌<◌, ◌≤◌, ◌++◌, length, replicate, IsTrue, IfSome, slice_index_or, IfOk, OnOk, OnErr, SomeIff, ◌↔◌};
 ghost use Rattle.std.specs.Bool.{OnTrue, OnFalse};
 ghost use Rattle.std.specs.List.{All};
 ghost use Rattle.wz_linear.specs.Bytes.{IsAccessWidth, number_of, bytes_of, part, written};
@@ -11,7 +11,7 @@ use crate::pages::SIZE;
 use crate::{copies, pages};
 use std::alloc::{AllocError, Global};
 use std::marker::Model;
-use wz_linear::{Linear, number_at};
+use wz_linear::Linear;
 
 /// A memory in pages, each made when a byte that isn't zero is first written to it. Contracts see
 /// it as the list of its bytes.
@@ -80,24 +80,64 @@ fn is_absent_at(pages: &[Page], at: usize, width: u32) -> bool
     true
 }
 
-/// The number at a place of the pages, wherever it lies. A page that isn't made gives zero without
-/// being made.
-#[cold]
-#[inline(never)]
-fn load_across(pages: &[Page], at: usize, width: u32) -> u64
+/// The byte at a place of the pages.
+#[inline]
+fn byte_at(pages: &[Page], at: usize) -> u8
+    requires { at < length pages.now * 65536 }
+    ensures { result ≡ slice_index_or (memory_of pages.now) at 0 }
+{
+    pages[at / SIZE].byte_at(at % SIZE)
+}
+
+/// The number at a place of the pages, wherever it lies, byte by byte and through no buffer. What
+/// writes nowhere leaves its caller all that it has loaded, so that a loop of loads need not fetch
+/// anew each time where the pages are.
+fn number_across(pages: &[Page], at: usize, width: u32) -> u64
     requires width { IsAccessWidth width }
     requires bounded { length pages.now ≤ 65536 }
     requires within { at + width ≤ length pages.now * 65536 }
     ensures found { result ≡ number_of (part (memory_of pages.now) at width) }
     ensures narrow { result < 256 ^ width }
 {
-    if is_absent_at(pages, at, width) {
-        return 0;
+    match width {
+        1 => u64::from(byte_at(pages, at)),
+        2 => u64::from(u16::from_le_bytes([byte_at(pages, at), byte_at(pages, at + 1)])),
+        4 => u64::from(u32::from_le_bytes([
+            byte_at(pages, at),
+            byte_at(pages, at + 1),
+            byte_at(pages, at + 2),
+            byte_at(pages, at + 3),
+        ])),
+        _ => u64::from_le_bytes([
+            byte_at(pages, at),
+            byte_at(pages, at + 1),
+            byte_at(pages, at + 2),
+            byte_at(pages, at + 3),
+            byte_at(pages, at + 4),
+            byte_at(pages, at + 5),
+            byte_at(pages, at + 6),
+            byte_at(pages, at + 7),
+        ]),
     }
-    let mut bytes = [0; 8];
-    let out = &mut bytes[..width as usize];
-    pages::read(pages, at, out);
-    number_at(out, 0, width)
+}
+
+/// The number at a place of the pages, wherever it lies; None where it ends past them. A page that
+/// isn't made gives zero without being made.
+#[cold]
+#[inline(never)]
+fn load_across(pages: &[Page], at: u64, width: u32) -> Option<u64>
+    requires width { IsAccessWidth width }
+    requires bounded { length pages.now ≤ 65536 }
+    ensures found { SomeIff result
+        (at + width ≤ length pages.now * 65536)
+        (number_of (part (memory_of pages.now) at width)) }
+    ensures narrow { IfSome result (λ number. number < 256 ^ width) }
+{
+    let at = index_of(pages, at, u64::from(width))?;
+    if is_absent_at(pages, at, width) {
+        return Some(0);
+    }
+    Some(number_across(pages, at, width))
 }
 
 /// Writes a number at a place, where it lies in one page that has been made.
@@ -121,21 +161,27 @@ fn store_inside(pages: &mut [Page], at: u64, value: u64, width: u32) -> bool
     true
 }
 
-/// Writes a number at a place of the pages, wherever it lies.
+/// Writes a number at a place of the pages, wherever it lies; false where it ends past them.
 #[cold]
 #[inline(never)]
-fn store_across(pages: &mut [Page], at: usize, value: u64, width: u32) -> Result<(), AllocError>
+fn store_across(pages: &mut [Page], at: u64, value: u64, width: u32) -> Result<bool, AllocError>
     requires width { IsAccessWidth width }
     requires bounded { length pages.old ≤ 65536 }
-    requires within { at + width ≤ length pages.old * 65536 }
-    ensures stored { OnOk result
-        (memory_of pages.new ≡ written (memory_of pages.old) at (bytes_of width value)) }
+    ensures within { IfOk result
+        (λ done. IsTrue done ↔ at + width ≤ length pages.old * 65536) }
+    ensures stored { IfOk result (λ done. OnTrue done
+        (memory_of pages.new ≡ written (memory_of pages.old) at (bytes_of width value))) }
+    ensures outside { IfOk result (λ done. OnFalse done
+        (memory_of pages.new ≡ memory_of pages.old)) }
     ensures refused { OnErr result (memory_of pages.new ≡ memory_of pages.old) }
     ensures octets { AreOctets (memory_of pages.old) → AreOctets (memory_of pages.new) }
 {
+    let Some(at) = index_of(pages, at, u64::from(width)) else {
+        return Ok(false);
+    };
     let bytes = value.to_le_bytes();
     pages::write(pages, at, &bytes[..width as usize])?;
-    Ok(())
+    Ok(true)
 }
 
 /// Adds so many pages that have not been made.
@@ -198,8 +244,10 @@ impl Linear for PagedMemory {
         if let Some(number) = load_inside(&self.pages, at, width) {
             return Some(number);
         }
-        let at = index_of(&self.pages, at, u64::from(width))?;
-        Some(load_across(&self.pages, at, width))
+        match load_across(&self.pages, at, width) {
+            Some(number) => Some(number),
+            None => None,
+        }
     }
 
     #[inline]
@@ -207,13 +255,10 @@ impl Linear for PagedMemory {
         if store_inside(&mut self.pages, at, value, width) {
             return Ok(true);
         }
-        match index_of(&self.pages, at, u64::from(width)) {
-            Some(at) => {
-                store_across(&mut self.pages, at, value, width)?;
-                Ok(true)
-            }
-            None => Ok(false),
+        if store_across(&mut self.pages, at, value, width)? {
+            return Ok(true);
         }
+        Ok(false)
     }
 
     fn fill(&mut self, at: u64, byte: u8, len: u64) -> Result<bool, AllocError> {

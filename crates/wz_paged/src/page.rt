@@ -1,6 +1,6 @@
 //! One page of a memory.
 
-ghost use Rattle.std.specs.Prelude.{◌≡◌, ◌+◌, ◌^◌, ◌<◌, ◌≤◌, [], length, replicate, IsTrue, IsSome, IfSome, OnOk, OnErr};
+ghost use Rattle.std.specs.Prelude.{◌≡◌, ◌+◌, ◌^◌, ◌<◌, ◌≤◌, [], length, replicate, slice_index_or, IsTrue, IsSome, IfSome, OnOk, OnErr};
 ghost use Rattle.std.specs.Bool.{OnTrue, OnFalse};
 ghost use Rattle.std.specs.List.{All};
 ghost use Rattle.wz_linear.specs.Bytes.{IsAccessWidth, number_of, bytes_of, part, written};
@@ -136,6 +136,15 @@ impl Page {
         if self.bytes.len() != 0 {
             copy_in(&mut self.bytes, to, from, count);
         }
+    }
+
+    /// The byte at a place.
+    #[inline]
+    pub fn byte_at(&self, at: usize) -> u8
+        requires { at < 65536 }
+        ensures { result ≡ slice_index_or (memory_of_page self.now) at 0 }
+    {
+        if self.is_made() { self.bytes[at] } else { 0 }
     }
 
     /// The number that stands at a place, where the page has been made and it lies in it.
