@@ -12,9 +12,9 @@ ghost use Rattle.wz_init.specs.States.{state_in};
 ghost use Rattle.wz_init.specs.Plain.{IsUnfit};
 ghost use Rattle.wz_init.specs.Ready.{IsReached, IsRefused, IsFaultOf, ready_from};
 ghost use Rattle.wz_init.specs.Orders.{IsRunnable};
-ghost use Rattle.wz_init.specs.Typed.{DatasHoldBytes};
 ghost use Rattle.wz_init.specs.declared.order.RunOrder.{RunOrder};
 
+use crate::bytes::datas_hold_bytes;
 use crate::faults::{InitFault, StartFault};
 use crate::instantiation::instantiate;
 use crate::laws;
@@ -47,7 +47,6 @@ fn run_store<'m, M: Linear>(
 ) -> Result<Reached<'m, M>, InitFault>
     requires valid { IsValid (module_of «module».now) }
     requires profile { IsInProfile (module_of «module».now) }
-    requires datas { DatasHoldBytes (module_of «module».now) }
     requires runnable { IsRunnable (module_of «module».now) order.now }
     requires fresh { let m = module_of «module».now in fresh m ≡ Instance (state_in m store) }
     ensures reached { IfOk result (λ reached.
@@ -59,6 +58,7 @@ fn run_store<'m, M: Linear>(
     laws::reached_states();
     laws::states_by_bodies();
     laws::states_are_typed();
+    datas_hold_bytes(module);
     let mut machine = Machine::new(alloc, module.bodies(), store);
     match run_phases(&mut machine, module.start(), order) {
         Ok(ticks) => Ok(Reached {
@@ -73,8 +73,7 @@ fn run_store<'m, M: Linear>(
 /// leaves it: all by one fuel, and each where the one before has stopped. Each fault says where
 /// and why the run ended; `OutOfFuel` that it hasn't ended after as many ticks as the fuel.
 ///
-/// The functions of the order are there and are of type [] to [], and a data segment holds bytes.
-/// So no run is stuck.
+/// The functions of the order are there and are of type [] to []. So no run is stuck.
 pub fn initialise<'m, M: Linear>(
     alloc: Global,
     module: &'m Module<'m>,
@@ -82,7 +81,6 @@ pub fn initialise<'m, M: Linear>(
 ) -> Result<Reached<'m, M>, InitFault>
     requires valid { IsValid (module_of «module».now) }
     requires profile { IsInProfile (module_of «module».now) }
-    requires datas { DatasHoldBytes (module_of «module».now) }
     requires runnable { IsRunnable (module_of «module».now) order.now }
     ensures reached { IfOk result (λ reached.
         IsReached (module_of «module».now) order.now reached.store reached.ticks) }

@@ -7,6 +7,7 @@
 #![tactic(auto)]
 
 mod allocation;
+mod bytes;
 mod constants;
 mod faults;
 mod initialisation;

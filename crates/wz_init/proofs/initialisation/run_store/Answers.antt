@@ -12,7 +12,7 @@ run_phases-requires-clause-ended g c =
     let s = machine_state c.new-machine.result in
     let b = begun c.states_by_bodies.ensures c.reached_states.ensures.fresh m c.new-machine.result c.bodies.result.now c.args.store c.requires.valid c.requires.profile
     c.new-machine.ensures.bodies c.bodies.ensures c.new-machine.ensures.store c.requires.fresh in
-    begun_ended m s (machine_stack c.new-machine.result) (begun_typed c.states_are_typed.ensures.fresh m s c.requires.valid c.requires.profile c.requires.datas b) b
+    begun_ended m s (machine_stack c.new-machine.result) (begun_typed c.states_are_typed.ensures.fresh m s c.requires.valid c.requires.profile c.datas_hold_bytes.ensures b) b
     c.new-machine.ensures.stack
 
 pub run_phases-requires-clause-sound : goal.run_phases-requires-clause-sound
@@ -38,7 +38,7 @@ run_phases-requires-clause-takes g c =
     let b = begun c.states_by_bodies.ensures c.reached_states.ensures.fresh m c.new-machine.result c.bodies.result.now c.args.store c.requires.valid c.requires.profile
     c.new-machine.ensures.bodies c.bodies.ensures c.new-machine.ensures.store c.requires.fresh in
     begun_takes c.valid_items.ensures.start m s c.start.result c.args.order.now c.requires.valid c.requires.runnable
-    (begun_typed c.states_are_typed.ensures.fresh m s c.requires.valid c.requires.profile c.requires.datas b) b c.start.ensures
+    (begun_typed c.states_are_typed.ensures.fresh m s c.requires.valid c.requires.profile c.datas_hold_bytes.ensures b) b c.start.ensures
 
 pub returns-in-Ok-clause-reached : goal.returns-in-Ok-clause-reached
 returns-in-Ok-clause-reached g c =

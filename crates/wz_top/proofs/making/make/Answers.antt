@@ -8,7 +8,6 @@ use Rattle.wz_top.specs.declared.outcome.Outcome.{Outcome}
 use Rattle.wz_top.proofs.OutsideLaws.{names_differ}
 use Rattle.wz_init.specs.Orders.{IsRunnable}
 use Rattle.wz_top.proofs.RunnableLemmas.{kept_run}
-use Rattle.wz_top.proofs.HeadlineLaws.{data_bytes}
 use Rattle.wz_top.proofs.TurnLemmas.{export_refused, run_refused}
 use Rattle.wz_top.proofs.MakingLemmas.{refused_made}
 use Rattle.wz_top.proofs.making.make.Goals as goal
@@ -22,9 +21,6 @@ returns-in-Err-clause-made g c = λ bytes a.
     refused_made s bytes c.export_outcome.result (g.F.Files.world c.args.files.now)
     (subst (λ (o : Outcome). IsRefusedBy s bytes o) (sym c.export_outcome.ensures)
     (export_refused s bytes (module_of c.args.accepted.now) c.in-Err.fault a c.in-Err.ensures.fault))
-
-pub initialise-requires-clause-datas : goal.initialise-requires-clause-datas
-initialise-requires-clause-datas g c = data_bytes c.requires.accepted.0 (module_of c.args.accepted.now) c.requires.accepted.1.spelled
 
 pub initialise-requires-clause-runnable : goal.initialise-requires-clause-runnable
 initialise-requires-clause-runnable g c =

@@ -5,15 +5,11 @@ use Rattle.wz_init.specs.declared.order.RunOrder.{RunOrder}
 use Rattle.wz_init.specs.Orders.{IsRunnable}
 use Rattle.wz_top.specs.Verdict.{order_of}
 use Rattle.wz_top.proofs.OutsideLaws.{names_differ}
-use Rattle.wz_top.proofs.HeadlineLaws.{data_bytes}
 use Rattle.wz_top.proofs.RunnableLemmas.{kept_run}
 use Rattle.wz_top.proofs.tests.sessions.initialised.Goals as goal
 
 pub keep-requires-clause-names : goal.keep-requires-clause-names
 keep-requires-clause-names c = names_differ (module_of c.args.accepted.now) c.requires.1.valid
-
-pub initialise-requires-clause-datas : goal.initialise-requires-clause-datas
-initialise-requires-clause-datas c = data_bytes c.requires.0 (module_of c.args.accepted.now) c.requires.1.spelled
 
 pub initialise-requires-clause-runnable : goal.initialise-requires-clause-runnable
 initialise-requires-clause-runnable c =
