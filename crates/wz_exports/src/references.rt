@@ -144,7 +144,8 @@ impl References {
 
     fn add_target(&mut self, target: ExportTarget) -> Result<(), AllocError>
         ensures { OnOk result
-            (AddsFunctions self.old.functions.keys self.new.functions.keys (exported_function target)) }
+            (AddsFunctions self.old.functions.keys self.new.functions.keys
+            (exported_function target)) }
     {
         match target {
             ExportTarget::Func(function) => self.add_function(function),
