@@ -394,8 +394,8 @@ impl<'m, M: Linear> Store<'m, M> {
         }
     }
 
-    /// The table for writing: its entries can be written, and another table put in its place. No call
-    /// of the table itself changes how many entries it has.
+    /// The table for writing: its entries can be written, and another table put in its place.
+    /// No call of the table itself changes how many entries it has.
     #[inline]
     pub fn table_mut(&mut self, at: u32) -> Option<&mut TableInstance>
         ensures* lent { sem 𝓛 (LendsTableIf M.row M.Linear self.entry at result) }
