@@ -18,7 +18,7 @@ use Rattle.wz_machine.specs.Straight.{changes_table}
 use Rattle.wz_machine.specs.Strides.{Gone}
 use Rattle.wz_machine.specs.Turns.{HasNumber}
 use Rattle.wz_machine.specs.Landing.{IsAgain}
-use Rattle.wz_machine.specs.Advance.{head_changes_table, StandingAdvanced, StackAdvanced, IsAdvancePart, StandingAdvancedPart, StackAdvancedPart, StepsOn, EntersNone, Enters, Reaches, ReachesEntry, GoesNot, HaltsNext, IsOnward, BranchesHere, BeginsAnew, Repeats}
+use Rattle.wz_machine.specs.Advance.{head_changes_table, StandingAdvanced, StackAdvanced, IsAdvancePart, StandingAdvancedPart, StackAdvancedPart, StepsOn, EntersNone, Enters, Reaches, ReachesEntry, GoesNot, HaltsNext, IsStepOn, IsOnward, BranchesHere, BeginsAnew, Repeats}
 use Rattle.wz_machine.specs.declared.advance.Onward.TheVariants as onward
 use Rattle.wz_machine.proofs.BranchLemmas.{branch-again}
 use Rattle.wz_machine.proofs.KeptLemmas.{again-stacked}
@@ -84,7 +84,7 @@ gone_on bodies s before now t gone spares = record {
 -- a step that doesn't go on leaves all as it was
 pub halts_here : (bodies : List BodyParts) (store after : StoreState) (before now : StackParts) (answer : Answer) → now ≡ before → after ≡ store
     → step (state_of bodies store) (stacks_term before) ≡ answer → GoesNot answer
-    → IsOnward onward.Halts (state_of bodies store) (stacks_term before) (state_of bodies after) (stacks_term now)
+    → IsStepOn false (state_of bodies store) (stacks_term before) (state_of bodies after) (stacks_term now)
 halts_here bodies store after before now answer same kept is halts =
     (ap (λ (x : StoreState). state_of bodies x) kept, ap (λ (x : StackParts). stacks_term x) same, inr (subst (λ (a : Answer). GoesNot a) (sym is) halts))
 

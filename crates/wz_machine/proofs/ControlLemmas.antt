@@ -21,7 +21,7 @@ use Rattle.wz_machine.specs.Contexts.{content_reduct}
 use Rattle.wz_machine.specs.Flat.{content_of, own_values, locals_in, HasPlaces}
 use Rattle.wz_machine.specs.Stacks.{Entry, StackParts, opened_of, flat_of, stacks_term, HasRoom, IsStacked}
 use Rattle.wz_machine.specs.Opening.{stepped}
-use Rattle.wz_machine.specs.Turns.{own_of, NoNumber, HasNumber}
+use Rattle.wz_machine.specs.Turns.{own_of, arm_chosen, NoNumber, HasNumber}
 use Rattle.wz_machine.proofs.FlatLemmas.{plain_step}
 use Rattle.wz_machine.proofs.StackLemmas.{block-code}
 use Rattle.wz_machine.proofs.EntryLemmas.{sticks-step}
@@ -165,12 +165,19 @@ loop-reduct st s types shape number code rest have e is_types is_body is_code is
     ∙ ap (λ (c : Code). block_entry (locals_of s) (block_type types shape) (Some c) c (own_values (opened_of s.top) s.values) (code_in s.top.body rest)) tree
     ∙ ap (λ (vs : List Value). block_entry (locals_of s) (block_type types shape) (Some (code_in s.top.body code)) (code_in s.top.body code) vs (code_in s.top.body rest)) (own-all s have is)
 
-first-arm : (locals : List Value) (type : Option FunctionType) (first second : Code) (n : ℕ) (values : List Value) (rest : Code) → (n ≡ 0 → ⊥)
-    → if_entry locals type first second (I32 n ∷ values) rest ≡ block_entry locals type None first values rest
-first-arm locals type first second zero values rest ne = absurd (ne refl)
-first-arm locals type first second (suc n) values rest ne = refl
+pub second-chosen : (n : ℕ) (first second : Code) → n ≡ 0 → second ≡ arm_chosen n first second
+second-chosen n first second e = ap (λ k. arm_chosen k first second) (sym e)
 
--- if's first arm or its second, whose code is this
+pub first-chosen : (n : ℕ) (first second : Code) → (n ≡ 0 → ⊥) → first ≡ arm_chosen n first second
+first-chosen zero first second ne = absurd (ne refl)
+first-chosen (suc n) first second ne = refl
+
+chosen-arm : (locals : List Value) (type : Option FunctionType) (first second : Code) (n : ℕ) (values : List Value) (rest : Code)
+    → if_entry locals type first second (I32 n ∷ values) rest ≡ block_entry locals type None (arm_chosen n first second) values rest
+chosen-arm locals type first second zero values rest = refl
+chosen-arm locals type first second (suc n) values rest = refl
+
+-- if, with the arms that its body has
 if-reduct : (st : State) (s : StackParts) (types : List FunctionType) (shape : Shape) (first : ℕ) (second : Option ℕ) (n : ℕ) (rest : List Instr) (have : ℕ)
     → s.top.rest ≡ If shape first second ∷ rest → st.types ≡ types → have ≡ length s.values → HasNumber s n
     → content_reduct st (content_of (flat_of s))
@@ -182,26 +189,14 @@ if-reduct st s types shape first second n rest have e is_types is number =
     ∙ ap (λ (vs : List Value). if_entry (locals_of s) (block_type types shape) (tree_of s.top.body first) (arm_of (λ k. tree_of s.top.body k) second) vs (code_in s.top.body rest))
     (number-own s n have number is)
 
-pub if-first : (st : State) (s : StackParts) (types : List FunctionType) (shape : Shape) (first : ℕ) (second : Option ℕ) (n : ℕ) (code rest : List Instr) (have : ℕ)
-    → s.top.rest ≡ If shape first second ∷ rest → st.types ≡ types → have ≡ length s.values → HasNumber s n → (n ≡ 0 → ⊥) → IsBody s.top.body
-    → code ≡ block_at s.top.body.blocks first
+pub if-chosen : (st : State) (s : StackParts) (types : List FunctionType) (shape : Shape) (first : ℕ) (second : Option ℕ) (n : ℕ) (code rest : List Instr) (have : ℕ)
+    → s.top.rest ≡ If shape first second ∷ rest → st.types ≡ types → have ≡ length s.values → HasNumber s n
+    → code_in s.top.body code ≡ arm_chosen n (tree_of s.top.body first) (arm_of (λ k. tree_of s.top.body k) second)
     → content_reduct st (content_of (flat_of s))
     ≡ block_entry (locals_of s) (block_type types shape) None (code_in s.top.body code) (own_of s (have - 1)) (code_in s.top.body rest)
-if-first st s types shape first second n code rest have e is_types is number ne is_body is_code =
-    let tree : tree_of s.top.body first ≡ code_in s.top.body code =
-    sym (block-code s.top.body first is_body) ∙ ap (λ (c : List Instr). code_in s.top.body c) (sym is_code) in
+if-chosen st s types shape first second n code rest have e is_types is number is_code =
     if-reduct st s types shape first second n rest have e is_types is number
-    ∙ first-arm (locals_of s) (block_type types shape) (tree_of s.top.body first) (arm_of (λ k. tree_of s.top.body k) second) n (own_of s (have - 1)) (code_in s.top.body rest) ne
-    ∙ ap (λ (c : Code). block_entry (locals_of s) (block_type types shape) None c (own_of s (have - 1)) (code_in s.top.body rest)) tree
-
-pub if-second : (st : State) (s : StackParts) (types : List FunctionType) (shape : Shape) (first : ℕ) (second : Option ℕ) (n : ℕ) (code rest : List Instr) (have : ℕ)
-    → s.top.rest ≡ If shape first second ∷ rest → st.types ≡ types → have ≡ length s.values → HasNumber s n → n ≡ 0
-    → code_in s.top.body code ≡ arm_of (λ k. tree_of s.top.body k) second
-    → content_reduct st (content_of (flat_of s))
-    ≡ block_entry (locals_of s) (block_type types shape) None (code_in s.top.body code) (own_of s (have - 1)) (code_in s.top.body rest)
-if-second st s types shape first second n code rest have e is_types is number none is_code =
-    if-reduct st s types shape first second n rest have e is_types is number
-    ∙ ap (λ (k : ℕ). if_entry (locals_of s) (block_type types shape) (tree_of s.top.body first) (arm_of (λ k. tree_of s.top.body k) second) (I32 k ∷ own_of s (have - 1)) (code_in s.top.body rest)) none
+    ∙ chosen-arm (locals_of s) (block_type types shape) (tree_of s.top.body first) (arm_of (λ k. tree_of s.top.body k) second) n (own_of s (have - 1)) (code_in s.top.body rest)
     ∙ ap (λ (c : Code). block_entry (locals_of s) (block_type types shape) None c (own_of s (have - 1)) (code_in s.top.body rest)) (sym is_code)
 
 no-if : (locals : List Value) (type : Option FunctionType) (first second : Code) (values : List Value) (rest : Code) → NoNumber values

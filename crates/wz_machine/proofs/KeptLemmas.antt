@@ -280,6 +280,21 @@ left-parts i s n label base have count parent outer values e len lt cut is moved
       values = moved;
     }
 
+-- the last of the entries around was taken
+pub last-parts : (i : Inside) (s : StackParts) (have count : ℕ) (parent : Opened) (outer : List Opened) (values : List Value) → parts_in i ≡ s
+    → i.outer.items ≡ outer ++ parent ∷ []
+    → take (i.top.base + count) values ≡ take i.top.base s.values ++ range_of s.values (have - count) count
+    → IsLeft s 0 s.top.base have count (stack_parts parent outer values (i.top.base + count))
+last-parts i s have count parent outer values e taken moved =
+    let base : i.top.base ≡ s.top.base = ap (λ (t : StackParts). t.top.base) e in
+    let around : entry_of parent ∷ reverse (map entry_of outer) ≡ s.outer =
+    sym (outer-push outer parent) ∙ ap (λ (os : List Opened). reverse (map entry_of os)) (sym taken) ∙ ap (λ (t : StackParts). t.outer) e in
+    record {
+      parent = ap (λ (es : List Entry). slice_get es 0) (sym around);
+      outer = ap (λ (es : List Entry). drop 1 es) around;
+      values = moved ∙ ap (λ n. take n s.values ++ range_of s.values (have - count) count) base;
+    }
+
 pub again-parts : (i : Inside) (s : StackParts) (n label have count : ℕ) (target new : Opened) (again : List Instr) (outer : List Opened) (values : List Value) → parts_in i ≡ s
     → n ≡ length i.outer.items → label < length i.outer.items → outer ≡ take (n - label) i.outer.items → entry_of new ≡ record (entry_of target) { rest = again }
     → take (target.base + count) values ≡ take target.base s.values ++ range_of s.values (have - count) count

@@ -50,3 +50,4 @@ pub mod TurnLemmas
 pub mod IndirectLemmas
 pub mod PeekLemmas
 pub mod AdvanceLemmas
+pub mod AtOnceLemmas

@@ -97,6 +97,11 @@ GoesNot Stuck = Unit {0}
 abbrev pub HaltsNext : State → Term → Type 0
 HaltsNext s term = IsTrue (head_changes_table (next term)) ⊎ GoesNot (step s term)
 
+-- whether one more step was made, or isn't, since it changes a table or doesn't go on
+abbrev pub IsStepOn : Bool → State → Term → State → Term → Type 0
+IsStepOn true s term after new = StepsOn s term after new
+IsStepOn false s term after new = (after ≡ s) × (new ≡ term) × HaltsNext s term
+
 -- what one more step comes to: it isn't made, or it enters no function, or it enters one
 abbrev pub IsOnward : Onward → State → Term → State → Term → Type 0
 IsOnward onward.Halts s term after new = (after ≡ s) × (new ≡ term) × HaltsNext s term

@@ -54,6 +54,7 @@ pub mod Asks
 pub mod Calling
 pub mod Straight
 pub mod Advance
+pub mod AtOnce
 pub mod Running
 pub mod PlainTurns
 pub mod Peeks

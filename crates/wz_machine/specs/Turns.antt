@@ -1,5 +1,5 @@
 -- What the machine says of a step of its stacks.
-use Rattle.std.specs.Prelude.{◌≡◌, ◌≤◌, ℕ, ◌+◌, ◌-◌, List, [], ◌∷◌, Option, None, Some, Bool, true, false, length, take, drop, reverse}
+use Rattle.std.specs.Prelude.{◌≡◌, ◌≤◌, ℕ, zero, suc, ◌+◌, ◌-◌, List, [], ◌∷◌, Option, None, Some, Bool, true, false, length, take, drop, reverse}
 use Rattle.wz_types.specs.declared.value.Value.{Value}
 use Rattle.wz_types.specs.declared.value.Value.TheVariants.{I32, I64, F32, F64, Ref}
 use Rattle.wz_types.specs.FunctionType.{FunctionType}
@@ -61,6 +61,11 @@ EntryTurned before types shape loops code rest have result now =
     ≡ block_entry (locals_in (opened_of before.top) before.values) (block_type types shape) (again_of loops (code_in before.top.body code)) (code_in before.top.body code)
     (own_of before have) (code_in before.top.body rest)
     → Turned (step st (stacks_term before)) before result now
+
+-- the arm of an if that this number chooses
+abbrev pub arm_chosen : ℕ → Code → Code → Code
+arm_chosen zero first second = second
+arm_chosen (suc n) first second = first
 
 -- ---- the same of a step that reads the types of the state
 

@@ -1,13 +1,15 @@
 //! Many steps of one term at once.
 
 ghost use Rattle.std.specs.Prelude.{◌≡◌, ◌≤◌, length, IfOk, OnErr};
-ghost use Rattle.wz_machine.specs.State.{state_of};
+ghost use Rattle.wz_machine.specs.State.{State, state_of};
+ghost use Rattle.wz_machine.specs.Terms.{Term};
+ghost use Rattle.wz_machine.specs.Frames.{frame_count, local_count};
 ghost use Rattle.wz_machine.specs.Next.{next};
 ghost use Rattle.wz_machine.specs.Stacks.{stacks_term};
 ghost use Rattle.wz_machine.specs.Standings.{work_term, standing_of, stack_of};
 ghost use Rattle.wz_machine.specs.Machines.{machine_state, machine_stack};
 ghost use Rattle.wz_machine.specs.Keeping.{work_parts};
-ghost use Rattle.wz_machine.specs.Advance.{head_changes_table, IsOnward};
+ghost use Rattle.wz_machine.specs.Advance.{head_changes_table, StepsOn, IsStepOn, IsOnward};
 ghost use Rattle.wz_machine.specs.Advance.{IsAdvance, StandingAdvanced, StackAdvanced};
 ghost use Rattle.wz_machine.specs.Advance.{IsAdvancePart, StandingAdvancedPart, StackAdvancedPart};
 
@@ -49,46 +51,55 @@ impl<'m> Stacks<'m> {
         }
     }
 
-    /// One step more, where it goes on and changes no table.
+    /// What a step that was made comes to, by how many frames and locals there were before.
     #[inline(always)]
+    fn made(&self, frames: u64, locals: u64) -> Onward
+        ensures { (s after : State) (term : Term) → frames ≡ frame_count term →
+            locals ≡ local_count term → StepsOn s term after (stacks_term self.now) →
+            IsOnward result s term after (stacks_term self.now) }
+    {
+        if self.frames() > frames {
+            return Onward::Entered;
+        }
+        if self.frame_locals() > locals {
+            return Onward::Entered;
+        }
+        Onward::Went
+    }
+
+    /// One step more, whatever instruction stands in front: whether it goes on and changes no
+    /// table, and was made.
+    #[inline(never)]
     fn step_on<M: Linear>(
         &mut self,
         bodies: &'m [Body],
         store: &mut Store<'m, M>,
-    ) -> Result<Onward, AllocError>
-        ensures stepped { IfOk result (λ onward. IsOnward onward
+    ) -> Result<bool, AllocError>
+        ensures stepped { IfOk result (λ made. IsStepOn made
             (state_of bodies.now store.old) (stacks_term self.old)
             (state_of bodies.now store.new) (stacks_term self.new)) }
         ensures refused { OnErr result (self.new ≡ self.old) }
         ensures kept { OnErr result (store.new ≡ store.old) }
     {
         if self.meets_table() {
-            return Ok(Onward::Halts);
+            return Ok(false);
         }
-        let frames = self.frames();
-        let locals = self.frame_locals();
         match self.stride(bodies, store)? {
-            Stride::Went => {}
-            Stride::Ends { at: _, count: _ } => return Ok(Onward::Halts),
-            Stride::Trapped(_) => return Ok(Onward::Halts),
-            Stride::Stuck => return Ok(Onward::Halts),
+            Stride::Went => Ok(true),
+            Stride::Ends { at: _, count: _ } => Ok(false),
+            Stride::Trapped(_) => Ok(false),
+            Stride::Stuck => Ok(false),
             Stride::Asks {
                 pending: _,
                 count: _,
                 rest: _,
                 have: _,
-            } => return Ok(Onward::Halts),
+            } => Ok(false),
         }
-        if self.frames() > frames {
-            return Ok(Onward::Entered);
-        }
-        if self.frame_locals() > locals {
-            return Ok(Onward::Entered);
-        }
-        Ok(Onward::Went)
     }
 
-    /// The same. A branch to the innermost loop, which is met most, is made at once.
+    /// One step more, where it goes on and changes no table. Those that are met most are made at
+    /// once.
     #[inline(always)]
     fn onward<M: Linear>(
         &mut self,
@@ -104,11 +115,19 @@ impl<'m> Stacks<'m> {
         if self.repeats() {
             return Ok(Onward::Went);
         }
-        let onward = self.step_on(bodies, store)?;
-        Ok(onward)
+        let frames = self.frames();
+        let locals = self.frame_locals();
+        if self.at_once(bodies, store) {
+            return Ok(self.made(frames, locals));
+        }
+        if self.step_on(bodies, store)? {
+            return Ok(self.made(frames, locals));
+        }
+        Ok(Onward::Halts)
     }
 
     /// Makes at most so many steps that plainly go on, the last of which may enter a function.
+    #[inline(never)]
     pub fn advance<M: Linear>(
         &mut self,
         limit: u64,
@@ -157,6 +176,7 @@ impl<'m> Stacks<'m> {
 }
 
 /// Many steps of a term that waits for nothing.
+#[inline(always)]
 fn advance_work<'m, M: Linear>(
     limit: u64,
     bodies: &'m [Body],
@@ -185,6 +205,7 @@ fn advance_work<'m, M: Linear>(
 
 impl<'m> Standing<'m> {
     /// Many steps of this term; none where it waits.
+    #[inline(always)]
     fn advance<M: Linear>(
         &mut self,
         limit: u64,
@@ -211,6 +232,7 @@ impl<'m> Standing<'m> {
 }
 
 /// Many steps of the topmost term; none where no term stands.
+#[inline(always)]
 fn advance_top<'m, M: Linear>(
     limit: u64,
     bodies: &'m [Body],
@@ -242,6 +264,7 @@ impl<'m, M: Linear> Machine<'m, M> {
     /// Makes at most so many steps of the topmost term that plainly go on, and says how many and
     /// whether the last of them entered a function. It ends early only there, and before a step
     /// that changes a table or doesn't go on. Where memory is refused, some of the steps were made.
+    #[inline]
     pub fn advance(&mut self, limit: u64) -> Result<Advance, AllocError>
         ensures advanced { IfOk result (λ done. StackAdvanced done.entered limit done.made
             (machine_state self.old) (machine_stack self.old)

@@ -4,12 +4,13 @@ ghost use Rattle.std.specs.Prelude.{◌≡◌, ◌+◌, ◌≤◌, length, OnOk,
 ghost use Rattle.wz_machine.specs.Kept.{entry_kind};
 ghost use Rattle.wz_machine.specs.Opening.{IsBlockKind, with_block_opened};
 
-use crate::stacks::{Kind, Opened, Stacks};
+use crate::stacks::{Kind, Stacks};
 use std::alloc::AllocError;
 use wz_code::Instr;
 
 impl<'m> Stacks<'m> {
     /// Enters a block, where so many values stay, and so many of them are its parameters.
+    #[inline(always)]
     pub fn push_block(
         &mut self,
         rest: &'m [Instr],
@@ -26,26 +27,18 @@ impl<'m> Stacks<'m> {
             with_block_opened self.old rest.now opened code.now have params arity) }
         ensures refused { OnErr result (self.new ≡ self.old) }
     {
-        let mut around = self.top;
-        let depth = match around.depth.checked_add(1) {
-            Some(depth) => depth,
-            None => return Err(AllocError),
+        let Some(depth) = self.top.depth.checked_add(1) else {
+            return Err(AllocError);
         };
-        around.rest = rest;
-        self.outer.push(around)?;
-        self.top = Opened {
-            kind,
-            body: around.body,
-            rest: code,
-            arity,
-            base: have - params,
-            locals_at: around.locals_at,
-            locals_end: around.locals_end,
-            height: have - params,
-            depth,
-            frames: around.frames,
-            frame_locals: around.frame_locals,
-        };
+        self.outer.reserve(1)?;
+        self.top.rest = rest;
+        self.outer.push_reserved(self.top);
+        self.top.kind = kind;
+        self.top.rest = code;
+        self.top.arity = arity;
+        self.top.base = have - params;
+        self.top.height = have - params;
+        self.top.depth = depth;
         self.have = have;
         Ok(())
     }

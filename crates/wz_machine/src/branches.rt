@@ -58,6 +58,21 @@ impl<'m> Stacks<'m> {
         self.have = target.base + count;
     }
 
+    /// Leaves the innermost entry. The last `count` of `have` values go along.
+    #[inline(always)]
+    fn leave_last(&mut self, have: usize, count: usize)
+        requires parent { 0 < length self.old.outer }
+        requires values { have ≤ length self.old.values }
+        requires carried { self.old.top.base + count ≤ have }
+        ensures { IsLeft self.old 0 self.old.top.base have count self.new }
+    {
+        let base = self.top.base;
+        move_down(&mut self.values, base, have - count, count);
+        let parent = self.outer.take_last();
+        self.top = parent;
+        self.have = base + count;
+    }
+
     /// Begins the loop of this label anew. The last `count` of `have` values go along.
     #[inline]
     fn begin_again(
@@ -190,6 +205,7 @@ impl<'m> Stacks<'m> {
     }
 
     /// Leaves the innermost block or function at its end.
+    #[inline(always)]
     pub fn finish(&mut self) -> Turn
         requires { self.old.top.rest ≡ [] }
         ensures { TurnedAnywhere self.old result self.new }
@@ -206,7 +222,7 @@ impl<'m> Stacks<'m> {
                 count,
             };
         }
-        self.leave(0, top, have, count);
+        self.leave_last(have, count);
         Turn::Went
     }
 

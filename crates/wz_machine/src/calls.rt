@@ -28,6 +28,7 @@ use wz_types::{ValType, Value};
 
 /// Puts the locals of these runs behind the first `have` of the used values, in the place of the
 /// others, and answers how many they are. Where it is refused, all used values stay.
+#[inline(always)]
 fn put_called(
     values: &mut Vec<Value>,
     used: usize,
@@ -58,12 +59,13 @@ fn push_within<'m>(outer: &mut Vec<Opened<'m>>, around: Opened<'m>)
     requires { vec_len outer.old < vec_capacity outer.old }
     ensures { outer.new.items ≡ outer.old.items ++ around.entry ∷ [] }
 {
-    outer.push(around).unwrap();
+    outer.push_reserved(around);
 }
 
 impl<'m> Stacks<'m> {
     /// Enters a call of this body, whose arguments are the last `params` of the first `have`
     /// values.
+    #[inline(always)]
     pub fn push_call(
         &mut self,
         rest: &'m [Instr],
@@ -108,6 +110,7 @@ impl<'m> Stacks<'m> {
 
     /// Calls this function with the last of the first `have` values as arguments: its frame is
     /// entered, or the host's function is asked for.
+    #[inline(always)]
     pub fn call_callee(
         &mut self,
         rest: &'m [Instr],
@@ -145,6 +148,7 @@ impl<'m> Stacks<'m> {
     }
 
     /// `call x`.
+    #[inline(always)]
     pub fn call<M: Linear>(
         &mut self,
         rest: &'m [Instr],

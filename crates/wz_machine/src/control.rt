@@ -7,6 +7,7 @@ ghost use Rattle.wz_code.specs.Trees.{code_in, tree_of, arm_of};
 ghost use Rattle.wz_machine.specs.Advance.{BranchesHere, Repeats};
 ghost use Rattle.wz_machine.specs.BlockSteps.{block_type};
 ghost use Rattle.wz_machine.specs.Turns.{TurnedAnywhere, TurnedByTypes, EntryTurned, NoNumber, HasNumber, own_of};
+ghost use Rattle.wz_machine.specs.Turns.{arm_chosen};
 
 use crate::stacks::{Kind, Stacks, code_of};
 use crate::stride::split;
@@ -63,6 +64,7 @@ impl<'m> Stacks<'m> {
     }
 
     /// Enters a block of this shape, with what the block around has of so many values.
+    #[inline(always)]
     fn enter(
         &mut self,
         types: &[FuncType],
@@ -256,6 +258,20 @@ impl<'m> Stacks<'m> {
         }
     }
 
+    /// The instructions of the arm that this number chooses.
+    #[inline(always)]
+    fn chosen(&self, number: u32, first: u32, second: Option<u32>) -> &'m [Instr]
+        ensures { code_in self.now.top.body result.now ≡ arm_chosen number
+            (tree_of self.now.top.body first)
+            (arm_of (λ n. tree_of self.now.top.body n) second) }
+    {
+        if number == 0 {
+            return self.arm_code(second);
+        }
+        self.block_code(first)
+    }
+
+    #[inline(always)]
     pub fn choose(
         &mut self,
         types: &[FuncType],
@@ -272,12 +288,7 @@ impl<'m> Stacks<'m> {
         let Some(number) = self.number() else {
             return Ok(Turn::Stuck);
         };
-        if number == 0 {
-            let code = self.arm_code(second);
-            let turn = self.enter(types, shape, false, code, rest, have - 1)?;
-            return Ok(turn);
-        }
-        let code = self.block_code(first);
+        let code = self.chosen(number, first, second);
         let turn = self.enter(types, shape, false, code, rest, have - 1)?;
         Ok(turn)
     }

@@ -16,6 +16,7 @@
 mod advance;
 mod answers;
 mod asking;
+mod at_once;
 mod blocks;
 mod branches;
 mod callee;

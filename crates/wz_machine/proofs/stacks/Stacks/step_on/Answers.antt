@@ -1,6 +1,4 @@
-use Rattle.std.proofs.Common.{◌∙◌, inl, inr, refl, sym, arith}
-use Rattle.wz_machine.specs.Stacks.{stacks_term}
-use Rattle.wz_machine.specs.Advance.{EntersNone}
+use Rattle.std.proofs.Common.{◌∙◌, inl, refl, sym}
 use Rattle.wz_machine.proofs.AdvanceLemmas.{gone_on, halts_here}
 use Rattle.wz_machine.proofs.stacks.Stacks.step_on.Goals as goal
 
@@ -27,24 +25,7 @@ returns-in-Asks-clause-stepped g c =
     let strode = rw c.in-Asks.is at c.in_ok-stride.ensures.strode in
     halts_here c.args.bodies.now c.args.store.now c.stride.new.store c.args.self.now c.stride.new.self _ strode.1 strode.2 strode.0.asked.asks tt
 
-pub returns-then-frames-clause-stepped : goal.returns-then-frames-clause-stepped
-returns-then-frames-clause-stepped g c =
-    let gone = rw c.in-Went.is at c.in_ok-stride.ensures.strode in (
-      gone_on c.args.bodies.now c.args.store.now c.args.self.now c.stride.new.self c.stride.new.store gone (sym c.meets_table.ensures ∙ c.if-meets_table.false),
-      inl (omega arith),
-    )
-
-pub returns-then-frame_locals-locals-clause-stepped : goal.returns-then-frame_locals-locals-clause-stepped
-returns-then-frame_locals-locals-clause-stepped g c =
-    let gone = rw c.in-Went.is at c.in_ok-stride.ensures.strode in (
-      gone_on c.args.bodies.now c.args.store.now c.args.self.now c.stride.new.self c.stride.new.store gone (sym c.meets_table.ensures ∙ c.if-meets_table.false),
-      inr (omega arith),
-    )
-
-pub returns-clause-stepped : goal.returns-clause-stepped
-returns-clause-stepped g c =
+pub returns-in-Went-clause-stepped : goal.returns-in-Went-clause-stepped
+returns-in-Went-clause-stepped g c =
     let gone = rw c.in-Went.is at c.in_ok-stride.ensures.strode in
-    let none : EntersNone (stacks_term c.args.self.now) (stacks_term c.stride.new.self) = record { frames = omega arith; locals = omega arith } in (
-      gone_on c.args.bodies.now c.args.store.now c.args.self.now c.stride.new.self c.stride.new.store gone (sym c.meets_table.ensures ∙ c.if-meets_table.false),
-      none,
-    )
+    gone_on c.args.bodies.now c.args.store.now c.args.self.now c.stride.new.self c.stride.new.store gone (sym c.meets_table.ensures ∙ c.if-meets_table.false)
