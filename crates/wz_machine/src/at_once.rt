@@ -61,11 +61,13 @@ fn called(turn: Result<AskTurn<'_>, AllocError>) -> bool
 {
     match turn {
         Ok(AskTurn::Went) => true,
-        Ok(AskTurn::Asks {
-            pending: _,
-            count: _,
-            have: _,
-        }) => false,
+        Ok(
+            AskTurn::Asks {
+                pending: _,
+                count: _,
+                have: _,
+            },
+        ) => false,
         Ok(AskTurn::Trapped(_)) => false,
         Ok(AskTurn::Stuck) => false,
         Err(_) => false,
