@@ -22,6 +22,7 @@ pub mod StuckReplies
 pub mod StuckAccesses
 pub mod StuckSessions
 pub mod StuckStores
+pub mod TypedMoves
 pub mod ReferenceLemmas
 pub mod PutLemmas
 pub mod GrowLemmas

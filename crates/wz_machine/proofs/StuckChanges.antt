@@ -1,6 +1,9 @@
 -- Changes keep a state typed, and its context.
-use Rattle.std.proofs.Common.{◌≡◌, ◌≤◌, ◌<◌, ◌+◌, ◌*◌, ◌/◌, ◌^◌, ◌++◌, ◌⊎◌, [], ℕ, List, slice_get, Some, inl, subst, inr, sym, length, arith, length-append, take, drop, replicate}
+use Rattle.std.proofs.Common.{◌≡◌, ◌≤◌, ◌<◌, ◌+◌, ◌*◌, ◌/◌, ◌^◌, ◌++◌, ◌⊎◌, [], ℕ, List, slice_get, Some, inl, subst, inr, sym, ap, length, arith, length-append, take, drop, replicate}
+use Rattle.std.specs.List.{All}
 use Rattle.std.proofs.lemmas.List.{length-take, length-drop, length-replicate}
+use Rattle.std.proofs.lemmas.List.Elements.{All-get_or}
+use Rattle.std.proofs.lemmas.Option.{slice_get_within, get_or_from_slice_get}
 use Rattle.wz_types.specs.declared.value.Reference.{Reference}
 use Rattle.wz_types.specs.declared.value.Value.TheVariants.{Ref}
 use Rattle.wz_types.specs.Fits.{type_of_kind}
@@ -8,13 +11,15 @@ use Rattle.wz_linear.specs.Bytes.{written}
 use Rattle.wz_linear.proofs.WriteLemmas.{length-written}
 use Rattle.wz_valid_code.specs.Context.{TypingContext}
 use Rattle.wz_store.specs.Changes.{altered, overwritten, with_more_pages, Change, applied, Nothing, SetGlobal, with_content, WriteTable, with_entries, GrowTable, with_more_entries, WriteMemory, with_bytes, GrowMemory, EmptyElement, without_items, EmptyData}
-use Rattle.wz_store.proofs.ChangeLemmas.{get-altered}
+use Rattle.wz_store.specs.Lending.{with_contents, with_contents_at}
+use Rattle.wz_store.proofs.ChangeLemmas.{get-altered, length-altered}
 use Rattle.wz_store.specs.State.{Memory, pages_of, page_size, Global, Table, Element}
 use Rattle.wz_bulk.proofs.RangeLemmas.{written_is}
 use Rattle.wz_machine.specs.TypedState.{HoldsBytes, IsStateTyped, state_context, HasType, HaveKind}
 use Rattle.wz_machine.specs.State.{State}
 use Rattle.wz_machine.specs.TypedSteps.{IsChangeTyped}
-use Rattle.wz_machine.specs.TypedLaws.{ChangeKeepsTyping}
+use Rattle.wz_machine.specs.TypedTerms.{IsStackTyped}
+use Rattle.wz_machine.specs.TypedLaws.{ChangeKeepsTyping, ContentsKeepTyping}
 use Rattle.wz_machine.proofs.StuckParts.{each-written, each-join, each-same}
 use Rattle.wz_machine.proofs.TypedLemmas.{context_lasts}
 
@@ -141,3 +146,32 @@ kept-in s (EmptyData index) t c = record {
 pub change_keeps_typing : ChangeKeepsTyping
 change_keeps_typing s change t c =
     subst (λ (context : TypingContext). IsStateTyped context (applied change s)) (sym (context_lasts change s)) (kept-in s change t c)
+
+-- ---- other bytes in a memory
+
+bytes-each : (bytes : List ℕ) → All (λ byte. byte < 256) bytes → HoldsBytes bytes
+bytes-each bytes all k byte e =
+    subst (λ (n : ℕ). n < 256) (get_or_from_slice_get bytes k byte byte e) (All-get_or (λ b. b < 256) bytes k byte (slice_get_within bytes k byte e) all)
+
+other-contents : (s : State) (index pages : ℕ) (bytes : List ℕ) → IsStateTyped (state_context s) s → All (λ byte. byte < 256) bytes
+    → length bytes ≡ pages * page_size → pages < 2 ^ 32 → IsStateTyped (state_context s) (with_contents_at s index bytes)
+other-contents s index pages bytes t all whole few = record {
+  functions = t.functions;
+  globals = t.globals;
+  tables = t.tables;
+  elements = t.elements;
+  memories = each-altered (λ (m : Memory). HoldsBytes m.bytes) (λ m. with_contents bytes m) s.memories index t.memories (λ m is old. bytes-each bytes all);
+  datas = t.datas;
+  pages = each-altered (λ (m : Memory). pages_of m < 2 ^ 32) (λ m. with_contents bytes m) s.memories index t.pages (λ m is old. omega (arith, whole, few));
+  sizes = t.sizes;
+}
+
+pub contents_keep_typing : ContentsKeepTyping
+contents_keep_typing s stack index pages bytes typed all whole few =
+    let now : State = with_contents_at s index bytes in
+    let same : state_context now ≡ state_context s =
+    ap (λ (n : ℕ). record (state_context s) { memories = n }) (length-altered (λ (m : Memory). with_contents bytes m) s.memories index) in
+    record {
+      state = subst (λ (context : TypingContext). IsStateTyped context now) (sym same) (other-contents s index pages bytes typed.state all whole few);
+      terms = subst (λ (context : TypingContext). IsStackTyped context stack) (sym same) typed.terms;
+    }

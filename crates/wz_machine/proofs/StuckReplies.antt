@@ -17,8 +17,8 @@ use Rattle.wz_store.specs.State.{Memory, pages_of, Table}
 use Rattle.wz_store.specs.Growth.{may_grow, within_maximum, may_extend}
 use Rattle.wz_store.specs.Changes.{GrowMemory, GrowTable}
 use Rattle.wz_machine.specs.State.{State, FunctionBody, OwnBody, ImportedBody, NoBody, callable_at, FunctionInstance, callable_from, Callable}
-use Rattle.wz_machine.specs.Replies.{Reply, refusal, event_reply, question_event, fits_in, all_fit_in, takes_values, entry_reply, call_reply, may_enter, answer_reply, tick_reply, float_reply, put, memory_grown, change_reply, table_grown, grow_reply, return_reply, abort_reply}
-use Rattle.wz_machine.specs.TypedSteps.{IsChangeTyped, IsNotStuck, IsAnswerTyped}
+use Rattle.wz_machine.specs.Replies.{Reply, refusal, event_reply, fits_in, all_fit_in, takes_values, entry_reply, call_reply, may_enter, answer_reply, tick_reply, float_reply, put, memory_grown, change_reply, table_grown, grow_reply, return_reply, abort_reply}
+use Rattle.wz_machine.specs.TypedSteps.{IsChangeTyped, IsAnswerTyped}
 use Rattle.wz_machine.specs.TypedTerms.{IsStackTyped, as_operands, IsStandingTyped, IsTermTyped, answer_types}
 use Rattle.wz_machine.specs.TypedState.{state_context, IsStateTyped, HasType, BodyTyped}
 use Rattle.wz_machine.specs.Terms.{Standing, Question, AskFloat, AskMemory, AskTable, AskHost, Runs, Waits, Term}
@@ -36,24 +36,16 @@ use Rattle.wz_machine.proofs.StuckCalls.{locals-start, callable_at-there}
 use Rattle.wz_machine.proofs.StuckOperands.{if-tested}
 use Rattle.wz_machine.proofs.StuckLeaves.{step_keeps_typing}
 
--- what a move comes to keeps the typing, and isn't stuck
+-- what a move comes to keeps the typing
 pub record ReplyServes (s : State) (reply : Reply) : Type 0 where
   pub change : IsChangeTyped s reply.change
   pub stack : IsStackTyped (state_context s) reply.stack
-  pub event : IsNotStuck reply.event
 
 pub refusal-serves : (s : State) (stack : List Standing) → IsStackTyped (state_context s) stack → ReplyServes s (refusal stack)
-refusal-serves s stack h = record { change = tt; stack = h; event = tt }
+refusal-serves s stack h = record { change = tt; stack = h }
 
-pub event-serves : (s : State) (event : Event) → IsNotStuck event → (stack : List Standing) → IsStackTyped (state_context s) stack
-    → ReplyServes s (event_reply event stack)
-event-serves s event goes stack h = record { change = tt; stack = h; event = goes }
-
-pub question-event : (question : Question) → IsNotStuck (question_event question)
-question-event (AskFloat op operands) = tt
-question-event (AskMemory index by) = tt
-question-event (AskTable index by reference) = tt
-question-event (AskHost target arguments type) = tt
+pub event-serves : (s : State) (event : Event) (stack : List Standing) → IsStackTyped (state_context s) stack → ReplyServes s (event_reply event stack)
+event-serves s event stack h = record { change = tt; stack = h }
 
 module _ (s : State) (typed : IsStateTyped (state_context s) s) where
   -- ---- values that fit
@@ -120,8 +112,8 @@ module _ (s : State) (typed : IsStateTyped (state_context s) s) (numbers : Numbe
   entry-serves : (stack : List Standing) (o : Option Standing) → IsStackTyped (state_context s) stack
       → IsSomeAnd o (λ standing. IsStandingTyped (state_context s) standing) → ReplyServes s (entry_reply stack o)
   entry-serves stack None h t = absurd t
-  entry-serves stack (Some (Runs term)) h t = event-serves s Went tt (Runs term ∷ stack) (t, h)
-  entry-serves stack (Some (Waits question rest)) h t = record { change = tt; stack = (t, h); event = question-event question }
+  entry-serves stack (Some (Runs term)) h t = event-serves s Went (Runs term ∷ stack) (t, h)
+  entry-serves stack (Some (Waits question rest)) h t = record { change = tt; stack = (t, h) }
 
   pub call-serves : (stack : List Standing) (target : Option ExternalValue) (values : List Value) → IsStackTyped (state_context s) stack
       → ReplyServes s (call_reply s stack target values)
@@ -135,10 +127,10 @@ module _ (s : State) (typed : IsStateTyped (state_context s) s) (numbers : Numbe
 
   answer-serves : (term : Term) (below : List Standing) (results : List ValType) (answer : Answer) → IsAnswerTyped s results answer → IsStackTyped (state_context s) below
       → ReplyServes s (answer_reply term below answer)
-  answer-serves term below results (Next change now) a h = record { change = a.0; stack = ((results, a.1), h); event = tt }
-  answer-serves term below results (Done values) a h = record { change = tt; stack = h; event = tt }
-  answer-serves term below results (Trap kind) a h = record { change = tt; stack = h; event = tt }
-  answer-serves term below results (Ask question rest) a h = record { change = tt; stack = ((results, a), h); event = question-event question }
+  answer-serves term below results (Next change now) a h = record { change = a.0; stack = ((results, a.1), h) }
+  answer-serves term below results (Done values) a h = record { change = tt; stack = h }
+  answer-serves term below results (Trap kind) a h = record { change = tt; stack = h }
+  answer-serves term below results (Ask question rest) a h = record { change = tt; stack = ((results, a), h) }
   answer-serves term below results Stuck a h = absurd a
 
   pub tick-serves : (stack : List Standing) → IsStackTyped (state_context s) stack → ReplyServes s (tick_reply s stack)
@@ -150,11 +142,11 @@ module _ (s : State) (typed : IsStateTyped (state_context s) s) (numbers : Numbe
   -- ---- answers
 
   pub float-serves : (stack : List Standing) (answer : FloatReply) → IsStackTyped (state_context s) stack → ReplyServes s (float_reply s stack answer)
-  float-serves (Waits (AskFloat op operands) rest ∷ below) reply.Trap h = record { change = tt; stack = h.1; event = tt }
+  float-serves (Waits (AskFloat op operands) rest ∷ below) reply.Trap h = record { change = tt; stack = h.1 }
   float-serves (Waits (AskFloat op operands) rest ∷ below) (reply.Gives value) h =
       if-tested (λ (r : Reply). ReplyServes s r) (fits_in s value (types_of op).result) (event_reply Went (Runs (put (value ∷ []) rest) ∷ below))
       (refusal (Waits (AskFloat op operands) rest ∷ below))
-      (λ test. event-serves s Went tt (Runs (put (value ∷ []) rest) ∷ below)
+      (λ test. event-serves s Went (Runs (put (value ∷ []) rest) ∷ below)
       ((h.0.0, h.0.1.answered (value ∷ []) (fits-type s typed value (types_of op).result test, tt)), h.1))
       (refusal-serves s (Waits (AskFloat op operands) rest ∷ below) h)
   float-serves stack answer h = refusal-serves s stack h
@@ -182,7 +174,6 @@ module _ (s : State) (typed : IsStateTyped (state_context s) s) (numbers : Numbe
           ),
           b,
         );
-        event = tt;
       })
       (refusal-serves s stack h)
 
@@ -199,7 +190,6 @@ module _ (s : State) (typed : IsStateTyped (state_context s) s) (numbers : Numbe
             entries-serve s typed index by reference table is test (w.1.asked table.kind (slice_get-map (λ (t : Table). t.kind) s.tables index ∙ ap
             (λ (o : Option Table). option_map (λ (t : Table). t.kind) o) is));
         stack = ((w.0, grown-by rest w.0 (length table.entries) (typed.sizes index table is) w.1.answered), b);
-        event = tt;
       })
       (refusal-serves s stack h)
 
@@ -207,7 +197,7 @@ module _ (s : State) (typed : IsStateTyped (state_context s) s) (numbers : Numbe
       → IsStandingTyped (state_context s) (Waits question rest) → IsStackTyped (state_context s) below
       → ReplyServes s (event_reply Went (Runs (put (minus_one ∷ []) rest) ∷ below))
   minus-serves question rest below same w b =
-      event-serves s Went tt (Runs (put (minus_one ∷ []) rest) ∷ below)
+      event-serves s Went (Runs (put (minus_one ∷ []) rest) ∷ below)
       ((w.0, w.1.answered (minus_one ∷ []) (subst (λ (ts : List ValType). Have s (minus_one ∷ []) (pushed ts [])) (sym same) (refl, tt))), b)
 
   pub grow-serves : (stack : List Standing) (granted : Bool) → IsStackTyped (state_context s) stack → ReplyServes s (grow_reply s stack granted)
@@ -223,11 +213,11 @@ module _ (s : State) (typed : IsStateTyped (state_context s) s) (numbers : Numbe
   return-serves (Waits (AskHost target arguments type) rest ∷ below) values h =
       if-tested (λ (r : Reply). ReplyServes s r) (all_fit_in s values type.results) (event_reply Went (Runs (put (reverse values) rest) ∷ below))
       (refusal (Waits (AskHost target arguments type) rest ∷ below))
-      (λ test. event-serves s Went tt (Runs (put (reverse values) rest) ∷ below)
+      (λ test. event-serves s Went (Runs (put (reverse values) rest) ∷ below)
       ((h.0.0, h.0.1.answered (reverse values) (turned-stand s typed values type.results (all-stand s typed values type.results test))), h.1))
       (refusal-serves s (Waits (AskHost target arguments type) rest ∷ below) h)
   return-serves stack values h = refusal-serves s stack h
 
   pub abort-serves : (stack : List Standing) → IsStackTyped (state_context s) stack → ReplyServes s (abort_reply stack)
-  abort-serves (Waits (AskHost target arguments type) rest ∷ below) h = record { change = tt; stack = h.1; event = tt }
+  abort-serves (Waits (AskHost target arguments type) rest ∷ below) h = record { change = tt; stack = h.1 }
   abort-serves stack h = refusal-serves s stack h

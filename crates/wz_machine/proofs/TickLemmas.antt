@@ -1,5 +1,5 @@
 -- A tick of the topmost term is a tick of the stack of terms.
-use Rattle.std.proofs.Common.{◌≡◌, ◌≤◌, ◌<◌, ℕ, ◌+◌, ◌-◌, Bool, true, false, List, [], ◌∷◌, ◌++◌, Option, Some, None, length, take, drop, get_or, refl, ap, sym, subst, ◌∙◌, arith}
+use Rattle.std.proofs.Common.{◌≡◌, ◌≤◌, ◌<◌, ℕ, ◌+◌, ◌-◌, true, false, List, [], ◌∷◌, ◌++◌, Some, None, length, take, drop, get_or, refl, ap, sym, subst, ◌∙◌, arith}
 use Rattle.std.proofs.lemmas.List.{drop-take, length-take-le, reverse-reverse}
 use Rattle.std.proofs.Math.ListN.{set}
 use Rattle.wz_types.specs.declared.trap.TrapKind.{TrapKind}
@@ -86,14 +86,6 @@ ticked-trapped bodies s t before now kind goes same = record {
   stack = ap (λ (a : Answer). (answer_reply (stacks_term before) [] a).stack) goes;
 }
 
-pub ticked-stuck : (bodies : List BodyParts) (s t : StoreState) (before now : StackParts) → step (state_of bodies s) (stacks_term before) ≡ Stuck → now ≡ before → t ≡ s
-    → StandingTicked bodies s (running before) tick.Stuck (running now) t
-ticked-stuck bodies s t before now goes stay same = record {
-  event = ap (λ (a : Answer). (answer_reply (stacks_term before) [] a).event) (sym goes);
-  store = same ∙ ap (λ (a : Answer). applied (answer_reply (stacks_term before) [] a).change s) (sym goes);
-  stack = ap (λ (a : Answer). (answer_reply (stacks_term before) [] a).stack) goes ∙ ap (λ (b : StackParts). Runs (stacks_term b) ∷ []) (sym stay);
-}
-
 pub ticked-asked : (bodies : List BodyParts) (s t : StoreState) (before now : StackParts) (asking : Asking) (count : ℕ) (rest : List Instr) (have : ℕ) (ask : AskOf) (operands : List Value)
     → WillAsk (step (state_of bodies s) (stacks_term before)) before asking count rest have → now ≡ stepped before rest have → t ≡ s
     → asked_event ask ≡ question_event (question_of asking operands) → operands ≡ last_values count (stepped before rest have).values
@@ -129,7 +121,6 @@ goes-on tick.Went standing e = refl
 goes-on (tick.Done values) standing e = cc
 goes-on (tick.Trapped kind) standing e = cc
 goes-on (tick.Asked ask) standing e = refl
-goes-on tick.Stuck standing e = refl
 
 is-gone : (answer : Tick) (standing : Standing) → is_over answer ≡ true → left_by answer standing ≡ []
 is-gone tick.Idle standing e = cc
@@ -137,7 +128,6 @@ is-gone tick.Went standing e = cc
 is-gone (tick.Done values) standing e = refl
 is-gone (tick.Trapped kind) standing e = refl
 is-gone (tick.Asked ask) standing e = cc
-is-gone tick.Stuck standing e = cc
 
 stack-from : (bodies : List BodyParts) (s t : StoreState) (old new : List Standing) (answer : Tick) (top : TopTicked bodies s old answer new t) (now : List Standing)
     → now ≡ left_by answer (standing_of top.after) ++ top.below → StackTicked bodies s old answer now t

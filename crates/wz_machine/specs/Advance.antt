@@ -3,7 +3,7 @@ use Rattle.std.specs.Prelude.{◌≡◌, ◌≤◌, ◌<◌, ◌⊎◌, ℕ, zer
 use Rattle.wz_code.specs.Trees.{Leaf, Plain, TableBranch, TypedSelect}
 use Rattle.wz_store.specs.Changes.{Change, applied}
 use Rattle.wz_machine.specs.State.{State}
-use Rattle.wz_machine.specs.Terms.{Term, Question, Standing, Runs, Waits}
+use Rattle.wz_machine.specs.Terms.{Term, Standing, Runs, Waits}
 use Rattle.wz_machine.specs.Outcomes.{Branches, Answer, Next, Done, Trap, Ask, Stuck}
 use Rattle.wz_machine.specs.Step.{step}
 use Rattle.wz_machine.specs.Contexts.{content_reduct}

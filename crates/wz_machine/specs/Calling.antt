@@ -1,5 +1,5 @@
 -- How the machine's stacks change where a function of the instance's own is called (section 4.4.10 of the Core Specification).
-use Rattle.std.specs.Prelude.{◌≡◌, ℕ, suc, ◌+◌, ◌-◌, List, ◌∷◌, ◌++◌, length, take}
+use Rattle.std.specs.Prelude.{ℕ, suc, ◌+◌, ◌-◌, List, ◌∷◌, ◌++◌, length, take}
 use Rattle.wz_types.specs.declared.value.Value.{Value}
 use Rattle.wz_types.specs.Zeros.{zeros_of}
 use Rattle.wz_code.specs.declared.instr.Instr.{Instr}

@@ -40,6 +40,7 @@ pub mod TypedTerms
 pub mod TypedSteps
 pub mod TypedStores
 pub mod TypedLaws
+pub mod TypedMachines
 pub mod Callees
 pub mod Growths
 pub mod Refusals

@@ -42,8 +42,6 @@ pub data Event : Type 0 where
   HostCall : HostTarget → List Value → Event
   FloatAsked : NumOp → List Value → Event
   GrowAsked : Growth → Event
-  -- the step was stuck, and nothing has changed
-  StuckEvent : Event
   -- what an access sees
   BytesRead : List ℕ → Event
   HeldSize : ℕ → Event

@@ -21,7 +21,7 @@ use Rattle.wz_machine.specs.Outcomes.{Answer, Next, Done, Trap, Ask, Stuck}
 use Rattle.wz_machine.specs.Step.{step}
 use Rattle.wz_machine.specs.Entered.{entered}
 use Rattle.wz_machine.specs.Exports.{ExternalValue, ExternalFunction}
-use Rattle.wz_machine.specs.Moves.{Event, Refused, Went, DoneEvent, Trapped, HostCall, FloatAsked, GrowAsked, StuckEvent}
+use Rattle.wz_machine.specs.Moves.{Event, Refused, Went, DoneEvent, Trapped, HostCall, FloatAsked, GrowAsked}
 
 -- what a move comes to: what is seen, what it changes in the state, and the stack of terms then
 pub record Reply : Type 0 where
@@ -87,13 +87,13 @@ call_reply s stack export values = refusal stack
 
 -- ---- a tick
 
--- of this term, above those below
+-- Of this term, above those below. A step without a rule is refused.
 abbrev pub answer_reply : Term → List Standing → Answer → Reply
 answer_reply term below (Next change new) = change_reply Went change (Runs new ∷ below)
 answer_reply term below (Done values) = event_reply (DoneEvent values) below
 answer_reply term below (Trap kind) = event_reply (Trapped kind) below
 answer_reply term below (Ask question rest) = event_reply (question_event question) (Waits question rest ∷ below)
-answer_reply term below Stuck = event_reply StuckEvent (Runs term ∷ below)
+answer_reply term below Stuck = refusal (Runs term ∷ below)
 
 abbrev pub tick_reply : State → List Standing → Reply
 tick_reply s (Runs term ∷ below) = answer_reply term below (step s term)

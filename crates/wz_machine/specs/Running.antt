@@ -1,5 +1,5 @@
 -- A run of plain instructions on the machine's stacks: where the locals and the own values of the innermost entry lie among its values.
-use Rattle.std.specs.Prelude.{◌≡◌, ◌≤◌, ◌-◌, ℕ, List, length, take, drop}
+use Rattle.std.specs.Prelude.{◌≡◌, ◌≤◌, ◌-◌, ℕ, List, take, drop}
 use Rattle.wz_types.specs.declared.value.Value.{Value}
 use Rattle.wz_store.specs.declared.function.Function.{Function}
 use Rattle.wz_store.specs.State.{StateOf}

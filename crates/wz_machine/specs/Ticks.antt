@@ -1,9 +1,8 @@
 -- What a tick of a machine answers and leaves, beside `tick_reply` of `Replies`.
 use Rattle.std.specs.Prelude.{◌≡◌, ℕ, List, [], ◌∷◌, Option, None, Bool, true, false}
-use Rattle.wz_types.specs.declared.value.Value.{Value}
 use Rattle.wz_code.specs.BodyParts.{BodyParts}
 use Rattle.wz_store.specs.Made.{StoreState}
-use Rattle.wz_store.specs.Changes.{Change, applied}
+use Rattle.wz_store.specs.Changes.{applied}
 use Rattle.wz_machine.specs.declared.questions.Ask.{Ask}
 use Rattle.wz_machine.specs.declared.questions.Ask.TheVariants as ask
 use Rattle.wz_machine.specs.declared.answers.Tick.{Tick}
@@ -11,7 +10,7 @@ use Rattle.wz_machine.specs.declared.answers.Tick.TheVariants as tick
 use Rattle.wz_machine.specs.State.{State, state_of}
 use Rattle.wz_machine.specs.Terms.{Standing, Runs, Waits}
 use Rattle.wz_machine.specs.Step.{step}
-use Rattle.wz_machine.specs.Moves.{Event, Refused, Went, DoneEvent, Trapped, HostCall, FloatAsked, GrowAsked, StuckEvent}
+use Rattle.wz_machine.specs.Moves.{Event, Refused, Went, DoneEvent, Trapped, HostCall, FloatAsked, GrowAsked}
 use Rattle.wz_machine.specs.Replies.{question_event, answer_reply, tick_reply}
 use Rattle.wz_machine.specs.Stacks.{StackParts}
 use Rattle.wz_machine.specs.Standings.{StacksWork, Asking, StandingParts, standing_of}
@@ -30,7 +29,6 @@ event_of tick.Went = Went
 event_of (tick.Done values) = DoneEvent values
 event_of (tick.Trapped kind) = Trapped kind
 event_of (tick.Asked ask) = asked_event ask
-event_of tick.Stuck = StuckEvent
 
 -- what a tick shows: of a term that runs the step's event, of one that waits its question again
 abbrev pub tick_event : State → List Standing → Event
@@ -47,7 +45,6 @@ left_by tick.Went standing = standing ∷ []
 left_by (tick.Done values) standing = []
 left_by (tick.Trapped kind) standing = []
 left_by (tick.Asked ask) standing = standing ∷ []
-left_by tick.Stuck standing = standing ∷ []
 
 pub record StandingTicked (bodies : List BodyParts) (s : StoreState) (old : StandingParts) (answer : Tick) (new : StandingParts) (t : StoreState) : Type 0 where
   pub event : event_of answer ≡ tick_event (state_of bodies s) (standing_of old ∷ [])
@@ -69,7 +66,6 @@ is_over tick.Went = false
 is_over (tick.Done values) = true
 is_over (tick.Trapped kind) = true
 is_over (tick.Asked ask) = false
-is_over tick.Stuck = false
 
 -- the topmost term was ticked, and stays where it is even if it is over
 pub record TopTicked (bodies : List BodyParts) (s : StoreState) (old : List Standing) (answer : Tick) (new : List Standing) (t : StoreState) : Type 0 where

@@ -8,8 +8,12 @@ use Rattle.wz_store.specs.State.{Global, Table, Memory, pages_of}
 use Rattle.wz_store.specs.Changes.{Change, Nothing, SetGlobal, WriteTable, WriteMemory, GrowTable, GrowMemory, EmptyElement, EmptyData, applied}
 use Rattle.wz_machine.specs.State.{State}
 use Rattle.wz_machine.specs.Outcomes.{Answer, Next, Done, Trap, Ask, Stuck}
-use Rattle.wz_machine.specs.Moves.{Event, Refused, Went, DoneEvent, Trapped, HostCall, FloatAsked, GrowAsked, StuckEvent, BytesRead, HeldSize, HeldValue}
+use Rattle.wz_machine.specs.Step.{step}
+use Rattle.wz_machine.specs.Terms.{Standing, Runs, Waits}
+use Rattle.wz_machine.specs.Exports.{ExportInstance}
+use Rattle.wz_machine.specs.Moves.{Move}
 use Rattle.wz_machine.specs.Replies.{Reply}
+use Rattle.wz_machine.specs.Sessions.{move_reply}
 use Rattle.wz_machine.specs.TypedState.{state_context, HasType, HaveKind, HoldsBytes}
 use Rattle.wz_machine.specs.TypedTerms.{HaveTypes, as_operands, IsTermTyped, IsWaitingTyped, IsMachineTyped}
 
@@ -45,25 +49,30 @@ IsAnswerTyped s results Stuck = ⊥
 
 -- ---- moves
 
-abbrev pub IsNotStuck : Event → Type 0
-IsNotStuck Refused = Unit {0}
-IsNotStuck Went = Unit {0}
-IsNotStuck (DoneEvent values) = Unit {0}
-IsNotStuck (Trapped kind) = Unit {0}
-IsNotStuck (HostCall target arguments) = Unit {0}
-IsNotStuck (FloatAsked op operands) = Unit {0}
-IsNotStuck (GrowAsked growth) = Unit {0}
-IsNotStuck StuckEvent = ⊥
-IsNotStuck (BytesRead bytes) = Unit {0}
-IsNotStuck (HeldSize size) = Unit {0}
-IsNotStuck (HeldValue value) = Unit {0}
-
 -- what a move comes to in a state: a change that fits, and an instance in which typed terms stand
 pub record IsReplyTyped (s : State) (reply : Reply) : Type 0 where
   pub change : IsChangeTyped s reply.change
   pub machine : IsMachineTyped (applied reply.change s) reply.stack
-  pub event : IsNotStuck reply.event
 
-abbrev pub NoneStuck : List Event → Type 0
-NoneStuck [] = Unit {0}
-NoneStuck (event ∷ events) = IsNotStuck event × NoneStuck events
+-- ---- to be stuck
+
+-- where a term runs, its next step has a rule
+abbrev pub StepHasRule : State → Standing → Type 0
+StepHasRule s (Runs term) = step s term ≡ Stuck → ⊥
+StepHasRule s (Waits question rest) = Unit {0}
+
+-- it is the topmost that makes steps
+abbrev pub IsNotStuck : State → List Standing → Type 0
+IsNotStuck s [] = Unit {0}
+IsNotStuck s (top ∷ below) = StepHasRule s top
+
+-- before each of these moves, and behind the last
+abbrev pub NoneStuckFrom : List ExportInstance → State → List Standing → List Move → Type 0
+NoneStuckFrom exports s stack [] = IsNotStuck s stack
+NoneStuckFrom exports s stack (move ∷ moves) =
+    IsNotStuck s stack
+    × NoneStuckFrom exports (applied (move_reply exports s stack move).change s) (move_reply exports s stack move).stack moves
+
+-- where no term stands yet
+abbrev pub NoneStuck : State → List ExportInstance → List Move → Type 0
+NoneStuck s exports moves = NoneStuckFrom exports s [] moves

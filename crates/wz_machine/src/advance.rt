@@ -261,11 +261,9 @@ fn advance_top<'m, M: Linear>(
 }
 
 impl<'m, M: Linear> Machine<'m, M> {
-    /// Makes at most so many steps of the topmost term that plainly go on, and says how many and
-    /// whether the last of them entered a function. It ends early only there, and before a step
-    /// that changes a table or doesn't go on. Where memory is refused, some of the steps were made.
-    #[inline]
-    pub fn advance(&mut self, limit: u64) -> Result<Advance, AllocError>
+    /// At most so many steps of the topmost term that plainly go on.
+    #[inline(always)]
+    pub(crate) fn make_steps(&mut self, limit: u64) -> Result<Advance, AllocError>
         ensures advanced { IfOk result (λ done. StackAdvanced done.entered limit done.made
             (machine_state self.old) (machine_stack self.old)
             (machine_state self.new) (machine_stack self.new)) }

@@ -18,8 +18,6 @@ pub enum Tick {
     Trapped(TrapKind),
     /// It waits for the answer.
     Asked(Ask),
-    /// No rule of the standard fits, and nothing has changed.
-    Stuck,
 }
 
 /// The call doesn't fit what stands on top, and nothing has changed.

@@ -10,8 +10,10 @@ ghost use Rattle.wz_machine.specs.Laws.{LeafSame, StepSame, ObservesSame, TypedN
 ghost use Rattle.wz_machine.specs.References.{TakesOwn, is_own, StepAddsNoReference};
 ghost use Rattle.wz_machine.specs.References.{ChangeAddsNoReference, EntryAddsNoReference};
 ghost use Rattle.wz_machine.specs.References.{PutAddsNoReference};
-ghost use Rattle.wz_machine.specs.TypedLaws.{ChangeKeepsTyping, EntryIsTyped, StepKeepsTyping};
-ghost use Rattle.wz_machine.specs.TypedLaws.{ContentNeverSticks, MoveKeepsTyping, NeverStuck};
+ghost use Rattle.wz_machine.specs.TypedLaws.{ChangeKeepsTyping, ContentsKeepTyping};
+ghost use Rattle.wz_machine.specs.TypedLaws.{EntryIsTyped, StepKeepsTyping};
+ghost use Rattle.wz_machine.specs.TypedLaws.{ContentNeverSticks, MoveKeepsTyping};
+ghost use Rattle.wz_machine.specs.TypedLaws.{TypedIsNotStuck, NeverStuck};
 ghost use Rattle.wz_machine.specs.TypedStores.{ValidFunctionsAreTyped};
 
 /// What an instruction or a step does rests on nothing of the state but types, functions and what
@@ -82,12 +84,14 @@ pub fn flat_terms()
 {}
 
 /// The functions of a typed state name no segment that isn't there, and the context in which it
-/// is typed is the same after each change. What changes it keeps it typed; and functions that are
-/// valid in their module are typed in the state that a store and the module's bodies are.
+/// is typed is the same after each change. What changes it keeps it typed, and so do other bytes in
+/// a memory; and functions that are valid in their module are typed in the state that a store and
+/// the module's bodies are.
 pub fn typed_states()
     ensures segments { TypedNames }
     ensures context { ContextLasts }
     ensures changes { ChangeKeepsTyping }
+    ensures contents { ContentsKeepTyping }
     ensures functions { ValidFunctionsAreTyped }
 {}
 
@@ -102,9 +106,11 @@ pub fn typed_terms()
     wz_num::laws::operands_are_served();
 }
 
-/// Any move from outside keeps the typing, and no move of a session from a typed state is stuck.
+/// Any move from outside keeps the typing, and no typed term is stuck; so no list of moves from a
+/// typed state meets a step without a rule.
 pub fn never_stuck()
     ensures moves { MoveKeepsTyping }
+    ensures steps { TypedIsNotStuck }
     ensures sessions { NeverStuck }
 {
     // a numeric operation answers operands of its types

@@ -27,6 +27,7 @@ mod growing;
 mod indirect;
 pub mod laws;
 mod machine;
+mod moves;
 mod operands;
 mod peek;
 mod plain;

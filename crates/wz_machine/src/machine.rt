@@ -5,7 +5,10 @@ ghost use Rattle.std.specs.Borrow.{sem};
 ghost use Rattle.wz_machine.specs.Lending.{LendsStore};
 ghost use Rattle.wz_machine.specs.Frames.{frames_in_all, locals_in_all};
 ghost use Rattle.wz_machine.specs.Replies.{fits_in, all_fit_in, function_reply, float_reply, grow_reply, return_reply, abort_reply};
+ghost use Rattle.wz_machine.specs.State.{state_of};
 ghost use Rattle.wz_machine.specs.Machines.{machine_state, machine_stack, IsReplied};
+ghost use Rattle.wz_machine.specs.TypedState.{IsStateTyped, state_context};
+ghost use Rattle.wz_machine.specs.TypedMachines.{HoldsTyped};
 ghost use Rattle.wz_machine.specs.Refusals.{enter_refusal, is_refusal, refusal_of, Answers};
 
 use crate::answers::{EnterFault, GrowFault, HostFault, NotNow};
@@ -73,6 +76,8 @@ impl<'m, M: Linear> Machine<'m, M> {
         ensures bodies { result.bodies ≡ bodies.now }
         ensures store { result.store ≡ store.entry }
         ensures stack { machine_stack result ≡ [] }
+        ensures typed { IsStateTyped (state_context (state_of bodies.now store.entry))
+            (state_of bodies.now store.entry) → HoldsTyped result }
     {
         Machine {
             alloc,
@@ -115,9 +120,8 @@ impl<'m, M: Linear> Machine<'m, M> {
         frame_locals_in(&self.standings)
     }
 
-    /// Puts the term of a call on top (section 4.5.5): a frame, or for an import the question for
-    /// the host's function.
-    pub fn enter(&mut self, function: u32, args: &[Value]) -> Result<(), EnterFault>
+    /// The term of a call on top.
+    pub(crate) fn put_call(&mut self, function: u32, args: &[Value]) -> Result<(), EnterFault>
         ensures reply { OnOk result (IsReplied self.old self.new
             (function_reply (machine_state self.old) (machine_stack self.old) function args.now)) }
         ensures faults { Answers EnterFault.NoMemory
@@ -142,9 +146,8 @@ impl<'m, M: Linear> Machine<'m, M> {
         Ok(())
     }
 
-    /// Answers the question for the result of a float operation; a trap ends the term. It takes no
-    /// memory.
-    pub fn answer_float(&mut self, reply: FloatReply) -> Result<(), NotNow>
+    /// The result of a float operation, or a trap, which ends the term.
+    pub(crate) fn put_float(&mut self, reply: FloatReply) -> Result<(), NotNow>
         ensures reply { OnOk result (IsReplied self.old self.new
             (float_reply (machine_state self.old) (machine_stack self.old) reply)) }
         ensures not_now { IsErr result ↔ IsTrue (is_refusal
@@ -166,9 +169,8 @@ impl<'m, M: Linear> Machine<'m, M> {
         Ok(())
     }
 
-    /// Answers the question for growth. What is granted is made here, if it is within the limits of
-    /// this moment.
-    pub fn answer_grow(&mut self, granted: bool) -> Result<(), GrowFault>
+    /// The size that a growth finds.
+    pub(crate) fn put_size(&mut self, granted: bool) -> Result<(), GrowFault>
         ensures reply { OnOk result (IsReplied self.old self.new
             (grow_reply (machine_state self.old) (machine_stack self.old) granted)) }
         ensures faults { Answers GrowFault.NoMemory (refusal_of GrowFault.NotNow
@@ -184,8 +186,8 @@ impl<'m, M: Linear> Machine<'m, M> {
         Ok(())
     }
 
-    /// Answers the call of a function of the host with what it gives.
-    pub fn answer_host(&mut self, values: &[Value]) -> Result<(), HostFault>
+    /// What a function of the host gives.
+    pub(crate) fn put_results(&mut self, values: &[Value]) -> Result<(), HostFault>
         ensures reply { OnOk result (IsReplied self.old self.new
             (return_reply (machine_state self.old) (machine_stack self.old) values.now)) }
         ensures faults { Answers HostFault.NoMemory (refusal_of HostFault.NotNow
@@ -203,8 +205,8 @@ impl<'m, M: Linear> Machine<'m, M> {
         Ok(())
     }
 
-    /// Takes a term away that waits for the host, whose function never returns. It takes no memory.
-    pub fn abort(&mut self) -> Result<(), NotNow>
+    /// A term that waits for the host is gone.
+    pub(crate) fn drop_waiting(&mut self) -> Result<(), NotNow>
         ensures reply { OnOk result (IsReplied self.old self.new
             (abort_reply (machine_stack self.old))) }
         ensures not_now { IsErr result ↔

@@ -4,9 +4,14 @@ ghost use Rattle.std.specs.Prelude.{◌≡◌, ◌≤◌, ◌+◌, [], length, o
 ghost use Rattle.wz_store.specs.Changes.{range_of};
 ghost use Rattle.wz_machine.specs.Replies.{question_event, tick_reply};
 ghost use Rattle.wz_machine.specs.Stacks.{last_values};
-ghost use Rattle.wz_machine.specs.Standings.{question_of, values_in, stack_of, IsStanding};
-ghost use Rattle.wz_machine.specs.Keeping.{asking_of, standing_parts};
+ghost use Rattle.wz_machine.specs.Standings.{question_of, values_in, work_term, standing_of};
+ghost use Rattle.wz_machine.specs.Standings.{stack_of, IsStanding};
+ghost use Rattle.wz_machine.specs.Keeping.{asking_of, work_parts, standing_parts};
 ghost use Rattle.wz_machine.specs.Machines.{machine_state, machine_stack, IsReplied};
+ghost use Rattle.wz_machine.specs.State.{state_of};
+ghost use Rattle.wz_machine.specs.Terms.{Runs};
+ghost use Rattle.wz_machine.specs.Stacks.{stacks_term};
+ghost use Rattle.wz_machine.specs.TypedSteps.{StepHasRule, IsNotStuck};
 ghost use Rattle.wz_machine.specs.Ticks.{asked_event, event_of, tick_event, asking_with, running, is_over};
 ghost use Rattle.wz_machine.specs.Ticks.{StandingTicked, TopTicked, StackTicked};
 
@@ -70,6 +75,8 @@ impl<'m> Stacks<'m> {
         bodies: &'m [Body],
         store: &mut Store<'m, M>,
     ) -> Result<Ticked<'m>, AllocError>
+        requires rule { StepHasRule (state_of bodies.now store.old)
+            (Runs (stacks_term self.old)) }
         ensures ticked { IfOk result (λ ticked. StandingTicked bodies.now store.old
             (running self.old) ticked.tick
             (asking_with self.new (option_map (λ pending. asking_of pending) ticked.question)
@@ -84,7 +91,8 @@ impl<'m> Stacks<'m> {
             Stride::Went => Tick::Went,
             Stride::Ends { at, count } => Tick::Done(Values::new(alloc, self.range(at, count))?),
             Stride::Trapped(kind) => Tick::Trapped(kind),
-            Stride::Stuck => Tick::Stuck,
+            // the step has a rule
+            Stride::Stuck => unreachable!(),
             Stride::Asks {
                 pending,
                 count,
@@ -115,6 +123,8 @@ fn tick_work<'m, M: Linear>(
     work: &mut Work<'m>,
     store: &mut Store<'m, M>,
 ) -> Result<Ticked<'m>, AllocError>
+    requires rule { StepHasRule (state_of bodies.now store.old)
+        (Runs (work_term (work_parts work.old))) }
     ensures ticked { IfOk result (λ ticked. StandingTicked bodies.now store.old
         (standing_parts work.old None 0) ticked.tick
         (standing_parts work.new ticked.question ticked.count) store.new) }
@@ -145,7 +155,7 @@ fn is_over(tick: &Tick) -> bool
 {
     match tick {
         Tick::Done(_) | Tick::Trapped(_) => true,
-        Tick::Idle | Tick::Went | Tick::Asked(_) | Tick::Stuck => false,
+        Tick::Idle | Tick::Went | Tick::Asked(_) => false,
     }
 }
 
@@ -168,6 +178,7 @@ impl<'m> Standing<'m> {
         bodies: &'m [Body],
         store: &mut Store<'m, M>,
     ) -> Result<Tick, AllocError>
+        requires rule { StepHasRule (state_of bodies.now store.old) (standing_of self.old) }
         ensures ticked { IfOk result (λ tick.
             StandingTicked bodies.now store.old self.old tick self.new store.new) }
         ensures refused { OnErr result (self.new ≡ self.old) }
@@ -196,6 +207,7 @@ fn tick_last<'m, M: Linear>(
     standings: &mut Vec<Standing<'m>>,
     store: &mut Store<'m, M>,
 ) -> Result<Option<Tick>, AllocError>
+    requires rule { IsNotStuck (state_of bodies.now store.old) (stack_of standings.old.items) }
     ensures ticked { IfOk result (λ tick. MatchOption tick
         ((standings.old.items ≡ []) × (standings.new.items ≡ []) × (store.new ≡ store.old))
         (λ tick. TopTicked bodies.now store.old (stack_of standings.old.items) tick
@@ -220,6 +232,7 @@ fn tick_top<'m, M: Linear>(
     standings: &mut Vec<Standing<'m>>,
     store: &mut Store<'m, M>,
 ) -> Result<Tick, AllocError>
+    requires rule { IsNotStuck (state_of bodies.now store.old) (stack_of standings.old.items) }
     ensures ticked { IfOk result (λ tick. StackTicked bodies.now store.old
         (stack_of standings.old.items) tick (stack_of standings.new.items) store.new) }
     ensures refused { OnErr result (standings.new.items ≡ standings.old.items) }
@@ -237,9 +250,9 @@ fn tick_top<'m, M: Linear>(
 }
 
 impl<'m, M: Linear> Machine<'m, M> {
-    /// Makes one step of the topmost term, and answers what it comes to; a question that stands is
-    /// answered again.
-    pub fn tick(&mut self) -> Result<Tick, AllocError>
+    /// One step of the topmost term, which isn't stuck.
+    pub(crate) fn make_tick(&mut self) -> Result<Tick, AllocError>
+        requires rule { IsNotStuck (machine_state self.old) (machine_stack self.old) }
         ensures reply { OnOk result (IsReplied self.old self.new
             (tick_reply (machine_state self.old) (machine_stack self.old))) }
         ensures event { IfOk result (λ tick. event_of tick ≡
