@@ -18,4 +18,3 @@ pub mod TypedModules
 pub mod TypedFresh
 pub mod TypedRuns
 pub mod BeginLemmas
-pub mod TypingLemmas

@@ -13,14 +13,14 @@ use Rattle.wz_machine.specs.State.{State, state_of}
 use Rattle.wz_machine.specs.Terms.{Term, AskFloat, AskMemory, AskTable, AskHost, Standing, Runs}
 use Rattle.wz_machine.specs.Outcomes.{Answer, Next, Done, Trap, Ask, Stuck}
 use Rattle.wz_machine.specs.Step.{step}
-use Rattle.wz_machine.specs.Moves.{Event, TickMove}
+use Rattle.wz_machine.specs.Moves.{Event}
 use Rattle.wz_machine.specs.Replies.{Reply, answer_reply, tick_reply}
 use Rattle.wz_machine.specs.Ticks.{event_of, tick_event}
 use Rattle.wz_machine.specs.Machines.{MachineParts, machine_state, machine_stack, IsReplied}
 use Rattle.wz_machine.specs.Laws.{ChangeReachesState}
 use Rattle.wz_machine.specs.TypedTerms.{IsMachineTyped}
 use Rattle.wz_machine.specs.TypedSteps.{IsNotStuck}
-use Rattle.wz_machine.specs.TypedLaws.{MoveKeepsTyping}
+use Rattle.wz_machine.specs.TypedLaws.{TypedIsNotStuck}
 use Rattle.wz_machine.specs.declared.advance.Advance.{Advance}
 use Rattle.wz_machine.specs.Advance.{IsAdvance, StackAdvanced}
 use Rattle.wz_init.specs.Turns.{top_term, IsAlone, IsTicked, HasTicked, HasAdvanced}
@@ -65,23 +65,22 @@ ticked law old new tick turned alone event reply is =
     (reply.stack ∙ ap (λ (stack : List Standing). (tick_reply s stack).stack) alone))
 
 -- what is seen of a tick that isn't stuck
-seen_by : (term : Term) (answer : Answer) → IsNotStuck (answer_reply term [] answer).event → IsSome (turned_by (answer_reply term [] answer).event)
-seen_by term (Next change new) h = refl
-seen_by term (Done values) h = refl
-seen_by term (Trap kind) h = refl
-seen_by term (Ask (AskFloat op operands) rest) h = refl
-seen_by term (Ask (AskMemory index by) rest) h = refl
-seen_by term (Ask (AskTable index by value) rest) h = refl
-seen_by term (Ask (AskHost (target.Import number) arguments type) rest) h = refl
-seen_by term (Ask (AskHost (target.Foreign id) arguments type) rest) h = refl
-seen_by term Stuck h = absurd h
+seen_by : (term : Term) (answer : Answer) → (answer ≡ Stuck → ⊥) → IsSome (turned_by (answer_reply term [] answer).event)
+seen_by term (Next change new) goes = refl
+seen_by term (Done values) goes = refl
+seen_by term (Trap kind) goes = refl
+seen_by term (Ask (AskFloat op operands) rest) goes = refl
+seen_by term (Ask (AskMemory index by) rest) goes = refl
+seen_by term (Ask (AskTable index by value) rest) goes = refl
+seen_by term (Ask (AskHost (target.Import number) arguments type) rest) goes = refl
+seen_by term (Ask (AskHost (target.Foreign id) arguments type) rest) goes = refl
+seen_by term Stuck goes = absurd (goes refl)
 
-pub seen : MoveKeepsTyping → (s : State) (stack : List Standing) (tick : Tick) → IsMachineTyped s stack → IsAlone stack → event_of tick ≡ tick_event s stack
+pub seen : TypedIsNotStuck → (s : State) (stack : List Standing) (tick : Tick) → IsMachineTyped s stack → IsAlone stack → event_of tick ≡ tick_event s stack
     → IsSome (turned_by (event_of tick))
 seen law s stack tick typed alone event =
     let term = top_term stack in
-    let goes : IsNotStuck (answer_reply term [] (step s term)).event =
-    subst (λ (x : List Standing). IsNotStuck (tick_reply s x).event) alone (law [] s stack TickMove typed).event in
+    let goes : step s term ≡ Stuck → ⊥ = subst (λ (x : List Standing). IsNotStuck s x) alone (law s stack typed) in
     subst (λ (e : Event). IsSome (turned_by e)) (sym (event ∙ ap (λ (x : List Standing). tick_event s x) alone)) (seen_by term (step s term) goes)
 
 -- ---- many ticks

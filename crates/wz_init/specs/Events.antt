@@ -4,7 +4,7 @@ use Rattle.wz_store.specs.declared.function.Function.{Function}
 use Rattle.wz_store.specs.declared.function.Function.TheVariants as stored
 use Rattle.wz_machine.specs.declared.questions.HostTarget.TheVariants as target
 use Rattle.wz_machine.specs.declared.questions.Growth.TheVariants as growth
-use Rattle.wz_machine.specs.Moves.{Event, Refused, Went, DoneEvent, Trapped, HostCall, FloatAsked, GrowAsked, StuckEvent, BytesRead, HeldSize, HeldValue}
+use Rattle.wz_machine.specs.Moves.{Event, Refused, Went, DoneEvent, Trapped, HostCall, FloatAsked, GrowAsked, BytesRead, HeldSize, HeldValue}
 use Rattle.wz_init.specs.declared.turn.Turned.{Turned}
 use Rattle.wz_init.specs.declared.turn.Turned.TheVariants as turned
 use Rattle.wz_init.specs.declared.turn.Entered.{Entered}
@@ -20,7 +20,6 @@ turned_by (GrowAsked (growth.Memory index by)) = Some (turned.Memory index by)
 turned_by (GrowAsked (growth.Table index by)) = Some turned.Table
 turned_by (HostCall (target.Import number) arguments) = Some (turned.Import number)
 turned_by (HostCall (target.Foreign id) arguments) = Some (turned.Foreign id)
-turned_by StuckEvent = None
 turned_by Refused = None
 turned_by (BytesRead bytes) = None
 turned_by (HeldSize size) = None

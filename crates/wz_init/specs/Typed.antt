@@ -10,7 +10,6 @@ use Rattle.wz_machine.specs.TypedState.{IsStateTyped, state_context}
 use Rattle.wz_machine.specs.TypedSteps.{NoneStuck}
 use Rattle.wz_machine.specs.Exports.{ExportInstance}
 use Rattle.wz_machine.specs.Moves.{Move}
-use Rattle.wz_machine.specs.Sessions.{observe}
 use Rattle.wz_init.specs.declared.order.Phase.{Phase}
 use Rattle.wz_init.specs.declared.order.RunOrder.{RunOrder}
 use Rattle.wz_init.specs.Instances.{Instance}
@@ -39,12 +38,12 @@ RunIsNeverStuck = (m : Module) (order : RunOrder) (phase : Phase) → IsValid m 
 
 -- ---- sessions
 
--- no event of any list of moves from the fresh instance is stuck
+-- no list of moves from the fresh instance meets a step without a rule
 abbrev pub FreshIsNeverStuck : Type 0
 FreshIsNeverStuck = (m : Module) (s : State) (exports : List ExportInstance) (moves : List Move) → IsValid m → IsInProfile m → DatasHoldBytes m
-    → fresh m ≡ Instance s → NoneStuck (observe s exports moves)
+    → fresh m ≡ Instance s → NoneStuck s exports moves
 
 -- nor from the state that is reached
 abbrev pub ReachedIsNeverStuck : Type 0
 ReachedIsNeverStuck = (m : Module) (order : RunOrder) (s : State) (ticks : ℕ) (exports : List ExportInstance) (moves : List Move) → IsValid m → IsInProfile m
-    → DatasHoldBytes m → IsRunnable m order → ready m order ≡ Reached s ticks → NoneStuck (observe s exports moves)
+    → DatasHoldBytes m → IsRunnable m order → ready m order ≡ Reached s ticks → NoneStuck s exports moves

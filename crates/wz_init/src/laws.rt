@@ -45,7 +45,7 @@ pub fn sessions_are_never_stuck()
     ensures fresh { FreshIsNeverStuck }
     ensures reached { ReachedIsNeverStuck }
 {
-    // the states are typed, and no move from a typed state is stuck
+    // the states are typed, and from a typed state no move is stuck
     states_are_typed();
     wz_machine::laws::never_stuck();
 }

@@ -75,8 +75,8 @@ fn turned(tick: &Tick) -> Turned
         Tick::Done(_) => Turned::Ended,
         Tick::Trapped(kind) => Turned::Trapped(*kind),
         Tick::Asked(ask) => asked(ask),
-        // a term stands, and it is typed
-        Tick::Idle | Tick::Stuck => unreachable!(),
+        // a term stands
+        Tick::Idle => unreachable!(),
     }
 }
 
@@ -91,7 +91,7 @@ fn tick<'m, M: Linear>(machine: &mut Machine<'m, M>) -> Result<Turned, AllocErro
         (IsMachineTyped (machine_state machine.new) (machine_stack machine.new)) }
     ensures bodies { OnOk result (machine.new.bodies ≡ machine.old.bodies) }
 {
-    // a move keeps the typing, and isn't stuck
+    // a typed term isn't stuck
     wz_machine::laws::steps_write();
     wz_machine::laws::never_stuck();
     let tick = machine.tick()?;
@@ -110,9 +110,6 @@ fn advance<'m, M: Linear>(machine: &mut Machine<'m, M>, limit: u64) -> Result<Ad
         (IsMachineTyped (machine_state machine.new) (machine_stack machine.new)) }
     ensures bodies { OnOk result (machine.new.bodies ≡ machine.old.bodies) }
 {
-    // each of the steps keeps the typing
-    wz_machine::laws::typed_states();
-    wz_machine::laws::typed_terms();
     let done = machine.advance(limit)?;
     Ok(done)
 }
@@ -143,9 +140,7 @@ fn enter<'m, M: Linear>(machine: &mut Machine<'m, M>, function: u32) -> Result<E
         (IsMachineTyped (machine_state machine.new) (machine_stack machine.new)) }
     ensures bodies { OnOk result (machine.new.bodies ≡ machine.old.bodies) }
 {
-    // a call keeps the typing
     wz_machine::laws::steps_write();
-    wz_machine::laws::never_stuck();
     let Some(stored) = machine.store().function(function) else {
         // the function is there
         unreachable!()
@@ -194,9 +189,7 @@ fn answer_growth<'m, M: Linear>(
         (IsMachineTyped (machine_state machine.new) (machine_stack machine.new)) }
     ensures bodies { OnOk result (machine.new.bodies ≡ machine.old.bodies) }
 {
-    // an answer keeps the typing
     wz_machine::laws::steps_write();
-    wz_machine::laws::never_stuck();
     match machine.answer_grow(granted) {
         Ok(()) => Ok(()),
         Err(GrowFault::NoMemory) => Err(AllocError),

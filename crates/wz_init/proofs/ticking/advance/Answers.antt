@@ -1,6 +1,5 @@
 use Rattle.wz_machine.specs.Machines.{machine_state, machine_stack}
 use Rattle.wz_init.proofs.TickingLemmas.{advanced}
-use Rattle.wz_init.proofs.TypingLemmas.{advanced_typed}
 use Rattle.wz_init.proofs.ticking.advance.Goals as goal
 
 pub returns-clause-made : goal.returns-clause-made
@@ -8,15 +7,3 @@ returns-clause-made g c =
     let old = c.args.machine.now in
     let new = c.advance.new.self in
     advanced c.in_ok-done.done c.args.limit (machine_state old) (machine_state new) (machine_stack old) (machine_stack new) c.requires.alone c.in_ok-done.ensures.advanced
-
-pub returns-clause-typed : goal.returns-clause-typed
-returns-clause-typed g c =
-    let old = c.args.machine.now in
-    let new = c.advance.new.self in
-    advanced_typed (record {
-      steps = c.typed_terms.ensures.steps;
-      changes = c.typed_states.ensures.changes;
-      context = c.typed_states.ensures.context;
-    }) c.in_ok-done.done (machine_state old) (machine_state new) (machine_stack old) (machine_stack new) c.requires.alone
-    (advanced c.in_ok-done.done c.args.limit (machine_state old) (machine_state new) (machine_stack old) (machine_stack new) c.requires.alone c.in_ok-done.ensures.advanced)
-    c.requires.typed
