@@ -85,7 +85,7 @@ pub(crate) fn is_control(instr: &Instr) -> bool
 }
 
 #[inline(always)]
-fn halted(made: usize, have: usize) -> Pause
+pub(crate) fn halted(made: usize, have: usize) -> Pause
     ensures stop { result.stop ≡ Halted }
     ensures made { result.made ≡ made }
     ensures have { result.have ≡ have }
