@@ -159,7 +159,7 @@ impl<'m> Stacks<'m> {
         went_if(self.choose(types, shape, first, second, rest))
     }
 
-    #[inline(never)]
+    #[inline(always)]
     fn call_at_once<M: Linear>(
         &mut self,
         function: u32,

@@ -132,10 +132,10 @@ pub(crate) fn straight<M: Linear>(
             continue;
         }
         let made = started - rest.len();
-        if is_table_change(instr) {
+        if is_control(instr) {
             return halted(made, now);
         }
-        if is_control(instr) {
+        if is_table_change(instr) {
             return halted(made, now);
         }
         match run_plain(body, instr, locals, own, now, store) {
