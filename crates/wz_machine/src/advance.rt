@@ -271,8 +271,13 @@ impl<'m, M: Linear> Machine<'m, M> {
     {
         let bodies = self.bodies;
         let mut made = 0;
-        let entered =
-            advance_top(limit, bodies, &mut self.standings, &mut self.store, &mut made)?;
+        let entered = advance_top(
+            limit,
+            bodies,
+            &mut self.standings,
+            &mut self.store,
+            &mut made,
+        )?;
         Ok(Advance { made, entered })
     }
 }

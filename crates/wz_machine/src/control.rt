@@ -96,7 +96,7 @@ impl<'m> Stacks<'m> {
     }
 
     /// The instructions of a block of the innermost entry's body.
-    #[inline(always)]
+    #[inline(never)]
     fn block_code(&self, number: u32) -> &'m [Instr]
         ensures code { result.now ≡ block_at self.now.top.body.blocks number }
         ensures kept { IsBody self.now.top.body }
