@@ -133,11 +133,12 @@ impl<'m> Stacks<'m> {
         limit: u64,
         bodies: &'m [Body],
         store: &mut Store<'m, M>,
-    ) -> Result<Advance, AllocError>
-        ensures advanced { IfOk result (λ done. IsAdvance done.entered limit done.made
+        count: &mut u64,
+    ) -> Result<bool, AllocError>
+        ensures advanced { IfOk result (λ entered. IsAdvance entered limit count.new
             (state_of bodies.now store.old) (stacks_term self.old)
             (state_of bodies.now store.new) (stacks_term self.new)) }
-        ensures limited { IfOk result (λ done. done.made ≤ limit) }
+        ensures limited { IfOk result (λ _. count.new ≤ limit) }
         ensures refused { OnErr result (IsAdvancePart limit
             (state_of bodies.now store.old) (stacks_term self.old)
             (state_of bodies.now store.new) (stacks_term self.new)) }
@@ -147,31 +148,23 @@ impl<'m> Stacks<'m> {
             let pause = self.run((limit - made) as usize, store)?;
             made += pause.made as u64;
             if made == limit {
-                return Ok(Advance {
-                    made,
-                    entered: false,
-                });
+                *count = made;
+                return Ok(false);
             }
             match self.onward(bodies, store)? {
                 Onward::Went => made += 1,
                 Onward::Halts => {
-                    return Ok(Advance {
-                        made,
-                        entered: false,
-                    });
+                    *count = made;
+                    return Ok(false);
                 }
                 Onward::Entered => {
-                    return Ok(Advance {
-                        made: made + 1,
-                        entered: true,
-                    });
+                    *count = made + 1;
+                    return Ok(true);
                 }
             }
         }
-        Ok(Advance {
-            made,
-            entered: false,
-        })
+        *count = made;
+        Ok(false)
     }
 }
 
@@ -182,24 +175,25 @@ fn advance_work<'m, M: Linear>(
     bodies: &'m [Body],
     work: &mut Work<'m>,
     store: &mut Store<'m, M>,
-) -> Result<Advance, AllocError>
-    ensures advanced { IfOk result (λ done. IsAdvance done.entered limit done.made
+    count: &mut u64,
+) -> Result<bool, AllocError>
+    ensures advanced { IfOk result (λ entered. IsAdvance entered limit count.new
         (state_of bodies.now store.old) (work_term (work_parts work.old))
         (state_of bodies.now store.new) (work_term (work_parts work.new))) }
-    ensures limited { IfOk result (λ done. done.made ≤ limit) }
+    ensures limited { IfOk result (λ _. count.new ≤ limit) }
     ensures refused { OnErr result (IsAdvancePart limit
         (state_of bodies.now store.old) (work_term (work_parts work.old))
         (state_of bodies.now store.new) (work_term (work_parts work.new))) }
 {
     match work {
         Work::Stacks(stacks) => {
-            let done = stacks.advance(limit, bodies, store)?;
-            Ok(done)
+            let entered = stacks.advance(limit, bodies, store, count)?;
+            Ok(entered)
         }
-        Work::Values(_) => Ok(Advance {
-            made: 0,
-            entered: false,
-        }),
+        Work::Values(_) => {
+            *count = 0;
+            Ok(false)
+        }
     }
 }
 
@@ -211,23 +205,22 @@ impl<'m> Standing<'m> {
         limit: u64,
         bodies: &'m [Body],
         store: &mut Store<'m, M>,
-    ) -> Result<Advance, AllocError>
-        ensures advanced { IfOk result (λ done. StandingAdvanced done.entered limit done.made
+        count: &mut u64,
+    ) -> Result<bool, AllocError>
+        ensures advanced { IfOk result (λ entered. StandingAdvanced entered limit count.new
             (state_of bodies.now store.old) (standing_of self.old)
             (state_of bodies.now store.new) (standing_of self.new)) }
-        ensures limited { IfOk result (λ done. done.made ≤ limit) }
+        ensures limited { IfOk result (λ _. count.new ≤ limit) }
         ensures refused { OnErr result (StandingAdvancedPart limit
             (state_of bodies.now store.old) (standing_of self.old)
             (state_of bodies.now store.new) (standing_of self.new)) }
     {
         if let Some(_) = self.question() {
-            return Ok(Advance {
-                made: 0,
-                entered: false,
-            });
+            *count = 0;
+            return Ok(false);
         }
-        let done = advance_work(limit, bodies, &mut self.work, store)?;
-        Ok(done)
+        let entered = advance_work(limit, bodies, &mut self.work, store, count)?;
+        Ok(entered)
     }
 }
 
@@ -238,11 +231,12 @@ fn advance_top<'m, M: Linear>(
     bodies: &'m [Body],
     standings: &mut Vec<Standing<'m>>,
     store: &mut Store<'m, M>,
-) -> Result<Advance, AllocError>
-    ensures advanced { IfOk result (λ done. StackAdvanced done.entered limit done.made
+    count: &mut u64,
+) -> Result<bool, AllocError>
+    ensures advanced { IfOk result (λ entered. StackAdvanced entered limit count.new
         (state_of bodies.now store.old) (stack_of standings.old.items)
         (state_of bodies.now store.new) (stack_of standings.new.items)) }
-    ensures limited { IfOk result (λ done. done.made ≤ limit) }
+    ensures limited { IfOk result (λ _. count.new ≤ limit) }
     ensures refused { OnErr result (StackAdvancedPart limit
         (state_of bodies.now store.old) (stack_of standings.old.items)
         (state_of bodies.now store.new) (stack_of standings.new.items)) }
@@ -250,13 +244,13 @@ fn advance_top<'m, M: Linear>(
 {
     match standings.last_mut() {
         Some(top) => {
-            let done = top.advance(limit, bodies, store)?;
-            Ok(done)
+            let entered = top.advance(limit, bodies, store, count)?;
+            Ok(entered)
         }
-        None => Ok(Advance {
-            made: 0,
-            entered: false,
-        }),
+        None => {
+            *count = 0;
+            Ok(false)
+        }
     }
 }
 
@@ -274,7 +268,14 @@ impl<'m, M: Linear> Machine<'m, M> {
         ensures bodies { self.new.bodies ≡ self.old.bodies }
     {
         let bodies = self.bodies;
-        let done = advance_top(limit, bodies, &mut self.standings, &mut self.store)?;
-        Ok(done)
+        let mut made = 0;
+        let entered = advance_top(
+            limit,
+            bodies,
+            &mut self.standings,
+            &mut self.store,
+            &mut made,
+        )?;
+        Ok(Advance { made, entered })
     }
 }

@@ -76,7 +76,7 @@ fn called(turn: Result<AskTurn<'_>, AllocError>) -> bool
 
 impl<'m> Stacks<'m> {
     /// The end of a block or a function.
-    #[inline(never)]
+    #[inline(always)]
     fn end_at_once(&mut self) -> bool
         requires { self.old.top.rest ≡ [] }
         ensures { MadeAnywhere result self.old self.new }
@@ -101,6 +101,50 @@ impl<'m> Stacks<'m> {
     }
 
     #[inline(never)]
+    fn br_table_at_once(&mut self, first: u32, count: u32, last: u32, rest: &'m [Instr]) -> bool
+        requires { self.old.top.rest ≡ Instr.BrTable first count last ∷ rest.now }
+        ensures { MadeAnywhere result self.old self.new }
+    {
+        went(self.br_table(first, count, last, rest))
+    }
+
+    #[inline(never)]
+    fn return_at_once(&mut self, rest: &'m [Instr]) -> bool
+        requires { self.old.top.rest ≡ Instr.Return ∷ rest.now }
+        ensures { MadeAnywhere result self.old self.new }
+    {
+        went(self.return_back(rest))
+    }
+
+    #[inline(never)]
+    fn block_at_once(
+        &mut self,
+        types: &[FuncType],
+        shape: Shape,
+        body: u32,
+        rest: &'m [Instr],
+    ) -> bool
+        requires { self.old.top.rest ≡ Instr.Block shape body ∷ rest.now }
+        ensures { MadeByTypes types.now result self.old self.new }
+    {
+        went_if(self.block(types, shape, body, rest))
+    }
+
+    #[inline(never)]
+    fn loop_at_once(
+        &mut self,
+        types: &[FuncType],
+        shape: Shape,
+        body: u32,
+        rest: &'m [Instr],
+    ) -> bool
+        requires { self.old.top.rest ≡ Instr.Loop shape body ∷ rest.now }
+        ensures { MadeByTypes types.now result self.old self.new }
+    {
+        went_if(self.begin_loop(types, shape, body, rest))
+    }
+
+    #[inline(always)]
     fn if_at_once(
         &mut self,
         types: &[FuncType],
@@ -113,6 +157,21 @@ impl<'m> Stacks<'m> {
         ensures { MadeByTypes types.now result self.old self.new }
     {
         went_if(self.choose(types, shape, first, second, rest))
+    }
+
+    #[inline(always)]
+    fn call_at_once<M: Linear>(
+        &mut self,
+        function: u32,
+        rest: &'m [Instr],
+        bodies: &'m [Body],
+        store: &Store<'m, M>,
+    ) -> bool
+        requires { self.old.top.rest ≡ Instr.Call function ∷ rest.now }
+        ensures { MadeBy (step (state_of bodies.now store.now) (stacks_term self.old))
+            result self.old self.new }
+    {
+        called(self.call(rest, function, bodies, store))
     }
 
     /// One step of the term, where a control instruction or an end is in front.
@@ -129,15 +188,15 @@ impl<'m> Stacks<'m> {
         let types = store.types();
         match instr {
             Instr::If { shape, yes, no } => self.if_at_once(types, shape, yes, no, rest),
-            Instr::Block { shape, body } => went_if(self.block(types, shape, body, rest)),
-            Instr::Loop { shape, body } => went_if(self.begin_loop(types, shape, body, rest)),
+            Instr::Block { shape, body } => self.block_at_once(types, shape, body, rest),
+            Instr::Loop { shape, body } => self.loop_at_once(types, shape, body, rest),
             Instr::Br(label) => self.br_at_once(label, rest),
             Instr::BrIf(label) => self.br_if_at_once(label, rest),
             Instr::BrTable { first, count, last } => {
-                went(self.br_table(first, count, last, rest))
+                self.br_table_at_once(first, count, last, rest)
             }
-            Instr::Return => went(self.return_back(rest)),
-            Instr::Call(function) => called(self.call(rest, function, bodies, store)),
+            Instr::Return => self.return_at_once(rest),
+            Instr::Call(function) => self.call_at_once(function, rest, bodies, store),
             _ => false,
         }
     }

@@ -46,6 +46,9 @@ fn put_called(
     ensures kept { OnErr result (take used values.new.items ≡ take used values.old.items) }
     ensures longer { length values.old.items ≤ length values.new.items }
 {
+    if runs.is_empty() {
+        return Ok(0);
+    }
     let now = put_locals(values, used, runs)?;
     if now < used || now - used > most {
         return Err(AllocError);
@@ -82,15 +85,16 @@ impl<'m> Stacks<'m> {
         ensures body { IsBody body.now }
     {
         let code = code_of(body, 0);
-        let mut around = self.top;
-        if around.frames >= MOST || params > MOST - around.frame_locals {
+        let frames = self.top.frames;
+        let frame_locals = self.top.frame_locals;
+        if frames >= MOST || params > MOST - frame_locals {
             return Err(AllocError);
         }
         self.outer.reserve(1)?;
-        let most = MOST - around.frame_locals - params;
+        let most = MOST - frame_locals - params;
         let zeros = put_called(&mut self.values, self.have, have, body.locals(), most)?;
-        around.rest = rest;
-        push_within(&mut self.outer, around);
+        self.top.rest = rest;
+        push_within(&mut self.outer, self.top);
         self.top = Opened {
             kind: Kind::Call,
             body,
@@ -101,8 +105,8 @@ impl<'m> Stacks<'m> {
             locals_end: have + zeros,
             height: have + zeros,
             depth: 0,
-            frames: around.frames + 1,
-            frame_locals: around.frame_locals + (params + zeros),
+            frames: frames + 1,
+            frame_locals: frame_locals + (params + zeros),
         };
         self.have = have + zeros;
         Ok(())

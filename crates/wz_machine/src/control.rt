@@ -96,7 +96,7 @@ impl<'m> Stacks<'m> {
     }
 
     /// The instructions of a block of the innermost entry's body.
-    #[inline]
+    #[inline(never)]
     fn block_code(&self, number: u32) -> &'m [Instr]
         ensures code { result.now ≡ block_at self.now.top.body.blocks number }
         ensures kept { IsBody self.now.top.body }
@@ -247,7 +247,7 @@ impl<'m> Stacks<'m> {
     }
 
     /// The instructions of an if's second arm.
-    #[inline]
+    #[inline(always)]
     fn arm_code(&self, number: Option<u32>) -> &'m [Instr]
         ensures { code_in self.now.top.body result.now ≡
             arm_of (λ n. tree_of self.now.top.body n) number }

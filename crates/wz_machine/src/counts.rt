@@ -65,6 +65,10 @@ pub(crate) fn frames_in(standings: &[Standing<'_>]) -> u64
     requires { length standings.now ≤ 2 ^ 31 }
     ensures { result ≡ frames_in_all (stack_of standings.now) }
 {
+    // mostly one term stands
+    if let [only] = standings {
+        return only.frames();
+    }
     let mut count = 0;
     for standing in standings {
         count += standing.frames();
@@ -77,6 +81,10 @@ pub(crate) fn frame_locals_in(standings: &[Standing<'_>]) -> u64
     requires { length standings.now ≤ 2 ^ 31 }
     ensures { result ≡ locals_in_all (stack_of standings.now) }
 {
+    // mostly one term stands
+    if let [only] = standings {
+        return only.frame_locals();
+    }
     let mut count = 0;
     for standing in standings {
         count += standing.frame_locals();

@@ -64,6 +64,10 @@ pub(crate) fn move_down(values: &mut Vec<Value>, to: usize, from: usize, count: 
     if count == 0 {
         return;
     }
+    // a block's own values stand where it begins
+    if to == from {
+        return;
+    }
     if count == 1 {
         values[to] = values[from];
         return;

@@ -10,7 +10,7 @@ ghost use Rattle.wz_machine.specs.Advance.{Reaches};
 
 use crate::room::make_room;
 use crate::stacks::Stacks;
-use crate::straight::{Pause, straight};
+use crate::straight::{Pause, halted, straight};
 use std::alloc::AllocError;
 use wz_code::{Body, Instr};
 use wz_linear::Linear;
@@ -70,6 +70,9 @@ impl<'m> Stacks<'m> {
         ensures kept { OnErr result (store.new ≡ store.old) }
     {
         let top = self.top;
+        if top.rest.is_empty() {
+            return Ok(halted(0, 0));
+        }
         make_room(&mut self.values, self.have, top.rest.len())?;
         let places = Places {
             locals_at: top.locals_at,

@@ -67,7 +67,7 @@ impl<'m> Model for Stacks<'m> {
 }
 
 /// The instructions of a body's block, or none where there is no such block.
-#[inline]
+#[inline(always)]
 pub(crate) fn code_of<'m>(body: &'m Body, number: u32) -> &'m [Instr]
     ensures code { result.now ≡ block_at body.now.blocks number }
     ensures kept { IsBody body.now }

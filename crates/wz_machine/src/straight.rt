@@ -85,7 +85,7 @@ pub(crate) fn is_control(instr: &Instr) -> bool
 }
 
 #[inline(always)]
-fn halted(made: usize, have: usize) -> Pause
+pub(crate) fn halted(made: usize, have: usize) -> Pause
     ensures stop { result.stop ≡ Halted }
     ensures made { result.made ≡ made }
     ensures have { result.have ≡ have }
@@ -132,10 +132,10 @@ pub(crate) fn straight<M: Linear>(
             continue;
         }
         let made = started - rest.len();
-        if is_table_change(instr) {
+        if is_control(instr) {
             return halted(made, now);
         }
-        if is_control(instr) {
+        if is_table_change(instr) {
             return halted(made, now);
         }
         match run_plain(body, instr, locals, own, now, store) {

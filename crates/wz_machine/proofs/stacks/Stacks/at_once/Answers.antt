@@ -8,9 +8,6 @@ pub returns-in_default-clause-spares : goal.returns-in_default-clause-spares
 returns-in_default-clause-spares g c =
     spares_ended c.end_at_once.result c.args.self.now c.innermost-top.result.rest.now c.innermost-top.ensures.rest (ap length c.in_default.ensures)
 
-pub returns-in-Call-clause-made : goal.returns-in-Call-clause-made
-returns-in-Call-clause-made g c = c.called.ensures _ c.args.self.now c.call.new.self c.in-Some.rest.now c.call.ensures.turned c.call.ensures.refused
-
 pub returns-in-If-clause-spares : goal.returns-in-If-clause-spares
 returns-in-If-clause-spares g c =
     spares_made c.if_at_once.result c.args.self.now c.in-Some.instr c.in-Some.rest.now (sym c.innermost-top.ensures.rest ∙ c.in-Some.ensures)
@@ -18,12 +15,12 @@ returns-in-If-clause-spares g c =
 
 pub returns-in-Block-clause-spares : goal.returns-in-Block-clause-spares
 returns-in-Block-clause-spares g c =
-    spares_made c.went_if.result c.args.self.now c.in-Some.instr c.in-Some.rest.now (sym c.innermost-top.ensures.rest ∙ c.in-Some.ensures)
+    spares_made c.block_at_once.result c.args.self.now c.in-Some.instr c.in-Some.rest.now (sym c.innermost-top.ensures.rest ∙ c.in-Some.ensures)
     (ap (λ (i : Instr). changes_table i) c.in-Block.is)
 
 pub returns-in-Loop-clause-spares : goal.returns-in-Loop-clause-spares
 returns-in-Loop-clause-spares g c =
-    spares_made c.went_if-in-Loop.result c.args.self.now c.in-Some.instr c.in-Some.rest.now (sym c.innermost-top.ensures.rest ∙ c.in-Some.ensures)
+    spares_made c.loop_at_once.result c.args.self.now c.in-Some.instr c.in-Some.rest.now (sym c.innermost-top.ensures.rest ∙ c.in-Some.ensures)
     (ap (λ (i : Instr). changes_table i) c.in-Loop.is)
 
 pub returns-in-Br-clause-spares : goal.returns-in-Br-clause-spares
@@ -38,15 +35,15 @@ returns-in-BrIf-clause-spares g c =
 
 pub returns-in-BrTable-clause-spares : goal.returns-in-BrTable-clause-spares
 returns-in-BrTable-clause-spares g c =
-    spares_made c.went.result c.args.self.now c.in-Some.instr c.in-Some.rest.now (sym c.innermost-top.ensures.rest ∙ c.in-Some.ensures)
+    spares_made c.br_table_at_once.result c.args.self.now c.in-Some.instr c.in-Some.rest.now (sym c.innermost-top.ensures.rest ∙ c.in-Some.ensures)
     (ap (λ (i : Instr). changes_table i) c.in-BrTable.is)
 
 pub returns-in-Return-clause-spares : goal.returns-in-Return-clause-spares
 returns-in-Return-clause-spares g c =
-    spares_made c.went-in-Return.result c.args.self.now c.in-Some.instr c.in-Some.rest.now (sym c.innermost-top.ensures.rest ∙ c.in-Some.ensures)
+    spares_made c.return_at_once.result c.args.self.now c.in-Some.instr c.in-Some.rest.now (sym c.innermost-top.ensures.rest ∙ c.in-Some.ensures)
     (ap (λ (i : Instr). changes_table i) c.in-Return.is)
 
 pub returns-in-Call-clause-spares : goal.returns-in-Call-clause-spares
 returns-in-Call-clause-spares g c =
-    spares_made c.called.result c.args.self.now c.in-Some.instr c.in-Some.rest.now (sym c.innermost-top.ensures.rest ∙ c.in-Some.ensures)
+    spares_made c.call_at_once.result c.args.self.now c.in-Some.instr c.in-Some.rest.now (sym c.innermost-top.ensures.rest ∙ c.in-Some.ensures)
     (ap (λ (i : Instr). changes_table i) c.in-Call.is)
