@@ -83,7 +83,7 @@ module _ (s : State) (typed : IsStateTyped (state_context s) s) where
       if-tested (λ (a : AccessReply). AccessServes s a) (global.type.mutable && fits_in s value global.type.value) (makes Went (SetGlobal index value)) no_access
       (λ test. let r = and_parts global.type.mutable (fits_in s value global.type.value) test in
       λ other is_other. let same : global ≡ other = cc in subst (λ (g : Global). HasType (state_context s) value g.type.value) same
-          (fits-type s typed value global.type.value r.1)) tt
+      (fits-type s typed value global.type.value r.1)) tt
 
   entry-seen : (o : Option Reference) → AccessServes s (entry_content o)
   entry-seen None = tt
@@ -102,8 +102,8 @@ module _ (s : State) (typed : IsStateTyped (state_context s) s) where
       (λ test. let r = and_parts (nat_lt at (length table.entries)) (fits_in s (Ref reference) (type_of_kind table.kind)) test in
       let lt = ltb-true at (length table.entries) r.0 in
       λ other is_other. let same : table ≡ other = cc in
-          subst (λ (t : Table). HaveKind (state_context s) t.kind (reference ∷ []) × (at + length (reference ∷ []) ≤ length t.entries)) same
-          (every-one (state_context s) table.kind reference (fits-type s typed (Ref reference) (type_of_kind table.kind) r.1), omega (arith, lt))) tt
+      subst (λ (t : Table). HaveKind (state_context s) t.kind (reference ∷ []) × (at + length (reference ∷ []) ≤ length t.entries)) same
+      (every-one (state_context s) table.kind reference (fits-type s typed (Ref reference) (type_of_kind table.kind) r.1), omega (arith, lt))) tt
 
   pub read_access-serves : (target : Option ExternalValue) (at count : ℕ) → AccessServes s (read_access s target at count)
   read_access-serves (Some (ExternalMemory index)) at count = read-serves at count (slice_get s.memories index)
