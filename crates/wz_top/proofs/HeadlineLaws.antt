@@ -38,7 +38,7 @@ use Rattle.wz_init.specs.Instantiation.{fresh}
 use Rattle.wz_init.specs.Ready.{Ready, Reached, StoppedIn, UnfitElement, UnfitData, NeverMade, ready}
 use Rattle.wz_init.specs.Reached.{IsReachedOf}
 use Rattle.wz_init.specs.Laws.{FreshIsReached, RunIsReached}
-use Rattle.wz_init.specs.Typed.{DatasHoldBytes, RunIsTyped}
+use Rattle.wz_init.specs.Typed.{DatasHoldBytes, RunIsTyped, FreshIsNeverStuck}
 use Rattle.wz_rewrite.specs.OutputState.{OutputState, HasRanges, reached_state}
 use Rattle.wz_rewrite.specs.Slots.{output_slots, filled_slots}
 use Rattle.wz_rewrite.specs.Parts.{global_types, output_memories, memory_of_size}
@@ -256,7 +256,8 @@ module _ (fresh_is : FreshIsReached) (run_is : RunIsReached) (typed : RunIsTyped
 
 -- ---- what is seen
 
-module _ (typed : RunIsTyped) (written : OutputIsWritten) (starts : OutputStartsAsReached) (names_are : TypedNames) (observes : ObservesSame) (never : NeverStuck) where
+module _ (typed : RunIsTyped) (written : OutputIsWritten) (starts : OutputStartsAsReached) (names_are : TypedNames) (observes : ObservesSame) (fresh_never : FreshIsNeverStuck)
+    (never : NeverStuck) where
   seen : (m : Module) (k : KeptExports) (state : State) → IsValidWith m k → StartsAs m state → IsStateTyped (state_context state) state
       → (instance : State) (moves : List Move) → fresh m ≡ Instance instance
       → observe instance (export_instances m.exports) moves ≡ observe state (export_instances k.entries) moves
@@ -285,7 +286,9 @@ module _ (typed : RunIsTyped) (written : OutputIsWritten) (starts : OutputStarts
         no_start = out.no_start;
         starts = begun;
         same_events = seen (rewritten_module m state k) k state out.valid begun is_typed;
-        none_stuck = λ moves. never state (export_instances k.entries) moves is_typed;
+        fresh_never_stuck = λ instance moves made. fresh_never (rewritten_module m state k) instance (export_instances (rewritten_module m state k).exports) moves
+            out.valid.valid out.valid.profile (data_bytes (rewritten m state k) (rewritten_module m state k) out.spelled) made;
+        reached_never_stuck = λ moves. never state (export_instances k.entries) moves is_typed;
       }
 
   abbrev verdict_bytes : Verdict → List ℕ → List ℕ

@@ -71,8 +71,10 @@ pub record PreInitialised (s : Settings) (input output : List ℕ) : Type 0 wher
   -- and whatever is done with that instance through its exports, the same is seen as of the state that was reached
   pub same_events : (instance : State) (moves : List Move) → fresh module_written ≡ Instance instance
       → observe instance (export_instances module_written.exports) moves ≡ observe state_reached (export_instances exports_kept.entries) moves
-  -- and no move is stuck
-  pub none_stuck : (moves : List Move) → NoneStuck (observe state_reached (export_instances exports_kept.entries) moves)
+  -- and no list of moves meets a step without a rule, neither there nor here
+  pub fresh_never_stuck : (instance : State) (moves : List Move) → fresh module_written ≡ Instance instance
+      → NoneStuck instance (export_instances module_written.exports) moves
+  pub reached_never_stuck : (moves : List Move) → NoneStuck state_reached (export_instances exports_kept.entries) moves
 
 -- After Done the output holds the input's bytes, pre-initialised. Where the input isn't told, there are some bytes of which that holds.
 abbrev pub OnPreInitialised : Outcome → Result Settings Usage → World → World → Type 0

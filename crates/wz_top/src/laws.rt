@@ -63,8 +63,10 @@ pub fn output_is_written()
 pub fn output_is_pre_initialised()
     ensures { OutputIsPreInitialised }
 {
-    // For the proof: what is written is valid, and its further segments aren't seen.
+    // For the proof: what is written is valid, its further segments aren't seen, and what is typed
+    // is never stuck.
     wz_init::laws::states_are_typed();
+    wz_init::laws::sessions_are_never_stuck();
     output_is_written();
     output_starts_as_reached();
     wz_machine::laws::typed_states();

@@ -6,6 +6,8 @@ mod moves;
 
 ghost use Rattle.std.specs.Prelude.{◌≢◌, ℕ, List, AllPairs, IfOk};
 ghost use Rattle.wz_module.specs.Meaning.{module_of};
+ghost use Rattle.wz_machine.specs.TypedState.{IsStateTyped, state_context};
+ghost use Rattle.wz_init.specs.States.{state_in};
 ghost use Rattle.wz_words.specs.Settings.{settings_of};
 ghost use Rattle.wz_top.specs.Verdict.{IsAccepted};
 
@@ -45,7 +47,10 @@ fn settings(alloc: Global) -> Result<Settings, Fail>
 /// The instance that the initialisation of a module leaves.
 fn initialised<'m>(alloc: Global, accepted: &'m Module<'m>) -> Result<Store<'m, PagedMemory>, Fail>
     requires { (bytes : List ℕ) × IsAccepted bytes (module_of «accepted».now) }
+    ensures { IfOk result (λ store. let s = state_in (module_of «accepted».now) store in
+        IsStateTyped (state_context s) s) }
 {
+    wz_init::laws::states_are_typed();
     let settings = settings(alloc)?;
     let Ok(kept) = keep(alloc, accepted, &settings) else {
         return Err(Fail::from("the module has no initialisation"));
@@ -64,7 +69,10 @@ fn initialised<'m>(alloc: Global, accepted: &'m Module<'m>) -> Result<Store<'m, 
 /// The instance that a module has before any function runs.
 fn fresh<'m>(alloc: Global, accepted: &'m Module<'m>) -> Result<Store<'m, PagedMemory>, Fail>
     requires { (bytes : List ℕ) × IsAccepted bytes (module_of accepted.now) }
+    ensures { IfOk result (λ store. let s = state_in (module_of «accepted».now) store in
+        IsStateTyped (state_context s) s) }
 {
+    wz_init::laws::states_are_typed();
     match instantiate::<PagedMemory>(alloc, accepted) {
         Ok(store) => Ok(store),
         Err(_) => Err(Fail::from("the module has no instance")),
@@ -80,6 +88,8 @@ fn goes_on(
 ) -> Result<(), Fail>
     requires { (bytes : List ℕ) × IsAccepted bytes (module_of accepted.now) }
 {
+    // a store with the module's bodies is a state of the module
+    wz_init::laws::states_by_bodies();
     let store = initialised(alloc, accepted)?;
     let mut machine = Machine::new(alloc, accepted.bodies(), store);
     observe(rt, &mut machine, session)
@@ -94,6 +104,8 @@ fn begins(
 ) -> Result<(), Fail>
     requires { (bytes : List ℕ) × IsAccepted bytes (module_of accepted.now) }
 {
+    // a store with the module's bodies is a state of the module
+    wz_init::laws::states_by_bodies();
     let store = fresh(alloc, accepted)?;
     let mut machine = Machine::new(alloc, accepted.bodies(), store);
     observe(rt, &mut machine, session)

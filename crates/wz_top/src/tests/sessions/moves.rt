@@ -1,4 +1,11 @@
-//! What is done with an instance from outside, and what is seen of it.
+//! What is done with an instance from outside, and what is seen of it. It stays typed throughout.
+
+ghost use Rattle.std.specs.Prelude.{List};
+ghost use Rattle.wz_code.specs.BodyParts.{BodyParts};
+ghost use Rattle.wz_machine.specs.State.{state_of};
+ghost use Rattle.wz_machine.specs.Terms.{Standing};
+ghost use Rattle.wz_machine.specs.TypedTerms.{IsMachineTyped};
+ghost use Rattle.wz_machine.specs.TypedMachines.{HoldsTyped};
 
 use super::cases::Session;
 use std::process::Abort;
@@ -7,6 +14,7 @@ use wz_code::NumOp;
 use wz_linear::{Linear, MAX_PAGES};
 use wz_machine::{Ask, EnterFault, FloatReply, Growth, HostTarget, Machine, Tick};
 use wz_paged::PagedMemory;
+use wz_store::Store;
 use wz_types::{TrapKind, Value, Values};
 
 /// What is done with an instance. Functions take one argument at most, and give one result.
@@ -41,7 +49,6 @@ pub enum Seen {
     Went,
     Done(Option<Value>),
     Trapped(TrapKind),
-    Stuck,
     HostCall(HostTarget, Option<Value>),
     FloatAsked(NumOp, Option<Value>),
     GrowAsked(Growth),
@@ -60,7 +67,6 @@ fn seen_in(tick: &Tick) -> Seen {
         Tick::Went => Seen::Went,
         Tick::Done(values) => Seen::Done(last(values)),
         Tick::Trapped(kind) => Seen::Trapped(*kind),
-        Tick::Stuck => Seen::Stuck,
         Tick::Asked(Ask::Host { target, args }) => Seen::HostCall(*target, last(args)),
         Tick::Asked(Ask::Float { op, operands }) => Seen::FloatAsked(*op, last(operands)),
         Tick::Asked(Ask::Grow(growth)) => Seen::GrowAsked(*growth),
@@ -78,14 +84,20 @@ fn entered(answer: Result<(), EnterFault>) -> Seen {
     }
 }
 
-fn enter(machine: &mut Machine<'_, PagedMemory>, function: u32, value: Option<Value>) -> Seen {
+fn enter(machine: &mut Machine<'_, PagedMemory>, function: u32, value: Option<Value>) -> Seen
+    requires { HoldsTyped machine.old }
+    ensures { HoldsTyped machine.new }
+{
     match value {
         Some(value) => entered(machine.enter(function, &[value])),
         None => entered(machine.enter(function, &[])),
     }
 }
 
-fn make_ticks(machine: &mut Machine<'_, PagedMemory>, count: u32) -> Result<Seen, Fail> {
+fn make_ticks(machine: &mut Machine<'_, PagedMemory>, count: u32) -> Result<Seen, Fail>
+    requires { HoldsTyped machine.old }
+    ensures { HoldsTyped machine.new }
+{
     for _ in 1..count {
         if seen_in(&machine.tick()?) != Seen::Went {
             return Err(Fail::from("a tick before the last one doesn't just go on"));
@@ -94,7 +106,10 @@ fn make_ticks(machine: &mut Machine<'_, PagedMemory>, count: u32) -> Result<Seen
     Ok(seen_in(&machine.tick()?))
 }
 
-fn answer_float(machine: &mut Machine<'_, PagedMemory>, reply: FloatReply) -> Seen {
+fn answer_float(machine: &mut Machine<'_, PagedMemory>, reply: FloatReply) -> Seen
+    requires { HoldsTyped machine.old }
+    ensures { HoldsTyped machine.new }
+{
     if machine.answer_float(reply).is_err() {
         return Seen::Refused;
     }
@@ -104,14 +119,20 @@ fn answer_float(machine: &mut Machine<'_, PagedMemory>, reply: FloatReply) -> Se
     }
 }
 
-fn answer_host(machine: &mut Machine<'_, PagedMemory>, value: Option<Value>) -> Seen {
+fn answer_host(machine: &mut Machine<'_, PagedMemory>, value: Option<Value>) -> Seen
+    requires { HoldsTyped machine.old }
+    ensures { HoldsTyped machine.new }
+{
     match value {
         Some(value) => went_if(machine.answer_host(&[value]).is_ok()),
         None => went_if(machine.answer_host(&[]).is_ok()),
     }
 }
 
-fn abort(machine: &mut Machine<'_, PagedMemory>) -> Seen {
+fn abort(machine: &mut Machine<'_, PagedMemory>) -> Seen
+    requires { HoldsTyped machine.old }
+    ensures { HoldsTyped machine.new }
+{
     match machine.abort() {
         Ok(()) => Seen::Trapped(TrapKind::Host),
         Err(_) => Seen::Refused,
@@ -139,10 +160,7 @@ fn enlarge(memory: &mut PagedMemory, by: u32) -> Result<Seen, Fail> {
     Ok(Seen::Held(pages))
 }
 
-fn access_memory(machine: &mut Machine<'_, PagedMemory>, access: Access) -> Result<Seen, Fail> {
-    let Some(memory) = machine.store_mut().memory_mut(0) else {
-        return Ok(Seen::Refused);
-    };
+fn access_bytes(memory: &mut PagedMemory, access: Access) -> Result<Seen, Fail> {
     match access {
         Access::Read(at, len) => Ok(read(memory, at, len)),
         Access::Write(at, byte) => Ok(went_if(memory.store(at, u64::from(byte), 1)?)),
@@ -150,7 +168,34 @@ fn access_memory(machine: &mut Machine<'_, PagedMemory>, access: Access) -> Resu
     }
 }
 
-fn act(machine: &mut Machine<'_, PagedMemory>, step: Move) -> Result<Seen, Fail> {
+/// Whatever stands over the store stays typed.
+fn access_store(store: &mut Store<'_, PagedMemory>, access: Access) -> Result<Seen, Fail>
+    ensures { (bodies : List BodyParts) (stack : List Standing) →
+        IsMachineTyped (state_of bodies store.old) stack →
+        IsMachineTyped (state_of bodies store.new) stack }
+{
+    // other bytes in a memory, on whole pages, keep what stands typed
+    wz_machine::laws::typed_states();
+    let Some(memory) = store.memory_mut(0) else {
+        return Ok(Seen::Refused);
+    };
+    let seen = access_bytes(memory, access);
+    // so many pages, of bytes
+    let _pages = memory.size_pages();
+    seen
+}
+
+fn access_memory(machine: &mut Machine<'_, PagedMemory>, access: Access) -> Result<Seen, Fail>
+    requires { HoldsTyped machine.old }
+    ensures { HoldsTyped machine.new }
+{
+    access_store(machine.store_mut(), access)
+}
+
+fn act(machine: &mut Machine<'_, PagedMemory>, step: Move) -> Result<Seen, Fail>
+    requires { HoldsTyped machine.old }
+    ensures { HoldsTyped machine.new }
+{
     match step {
         Move::Call(function, value) => Ok(enter(machine, function, value)),
         Move::Ticks(count) => make_ticks(machine, count),
@@ -167,7 +212,10 @@ pub fn observe(
     rt: &impl Abort,
     machine: &mut Machine<'_, PagedMemory>,
     session: &Session,
-) -> Result<(), Fail> {
+) -> Result<(), Fail>
+    requires typed { HoldsTyped machine.old }
+    ensures typed { HoldsTyped machine.new }
+{
     for (number, (step, wanted)) in session.moves.iter().enumerate() {
         let seen = act(machine, *step)?;
         assert!(rt; seen == *wanted, "{}: move {number}", session.name);
