@@ -14,7 +14,7 @@ use Rattle.wz_linear.specs.Bytes.{IsWithin, bytes_of, written}
 use Rattle.wz_num.specs.declared.answer.NumAnswer.{NumAnswer}
 use Rattle.wz_num.specs.Number.{number}
 use Rattle.wz_machine.specs.declared.plain.Plain.{Plain}
-use Rattle.wz_machine.specs.declared.plain.Plain.TheVariants.{Went, Trapped, Stuck, Special}
+use Rattle.wz_machine.specs.declared.plain.Plain.TheVariants.{Went, Trapped, NoRule, Special}
 use Rattle.wz_store.specs.declared.function.Function.{Function}
 use Rattle.wz_store.specs.State.{Memory, StateOf}
 use Rattle.wz_store.specs.Changes.{Nothing, WriteMemory}
@@ -71,7 +71,7 @@ settles (Went n) op operands small below have own new steps count some last (at,
     (omega arith, steps ∙ ap (λ x. result_effect op operands (used below own) x) is ∙ ap (λ vs. Yields Nothing vs) (sym left))
 settles (Trapped kind) op operands small below have own new steps count some last (is, same) =
     (steps ∙ ap (λ x. result_effect op operands (used below own) x) is, same)
-settles Stuck op operands small below have own new steps count some last (is, same) =
+settles NoRule op operands small below have own new steps count some last (is, same) =
     (steps ∙ ap (λ x. result_effect op operands (used below own) x) is, same)
 settles Special op operands small below have own new steps count some last (is, same) =
     let at : below ≡ have - count_of op = omega arith in

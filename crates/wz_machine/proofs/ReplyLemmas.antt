@@ -9,7 +9,7 @@ use Rattle.wz_store.specs.declared.function.Function.{Function}
 use Rattle.wz_store.specs.State.{StateOf}
 use Rattle.wz_store.specs.Changes.{Nothing}
 use Rattle.wz_machine.specs.declared.plain.Plain.{Plain}
-use Rattle.wz_machine.specs.declared.plain.Plain.TheVariants.{Went, Trapped, Stuck, Special}
+use Rattle.wz_machine.specs.declared.plain.Plain.TheVariants.{Went, Trapped, NoRule, Special}
 use Rattle.wz_machine.specs.Outcomes.{Effect, Does}
 use Rattle.wz_machine.specs.PlainSteps.{ValueReply, NumberReply, StoreReply, site, step_at, HoldsNone, Yielded, PlainReply}
 
@@ -21,7 +21,7 @@ of_values (Went n) body instr other effect have locals own new store is alone st
     rw is (alone, (r []).0, λ bodies. Yielded Nothing (steps bodies ∙ ap (λ e. Does e) (r bodies).1) refl refl)
 of_values (Trapped kind) body instr other effect have locals own new store is alone steps r =
     rw is (alone, (λ bodies. steps bodies ∙ ap (λ e. Does e) (r bodies).0), ap (λ (vs : List Value). site locals vs store) (r []).1)
-of_values Stuck body instr other effect have locals own new store is alone steps r =
+of_values NoRule body instr other effect have locals own new store is alone steps r =
     rw is (alone, (λ bodies. steps bodies ∙ ap (λ e. Does e) (r bodies).0), ap (λ (vs : List Value). site locals vs store) (r []).1)
 of_values Special body instr other effect have locals own new store is alone steps r = absurd (r [])
 
@@ -33,7 +33,7 @@ of_store (Went n) body instr other effect have locals own store after is alone s
     rw is (alone, omega (arith, r.0), λ bodies. Yielded r.1.change (steps bodies ∙ ap (λ e. Does e) r.1.yields) r.1.leaves refl)
 of_store (Trapped kind) body instr other effect have locals own store after is alone steps r =
     rw is (alone, (λ bodies. steps bodies ∙ ap (λ e. Does e) r.0), ap (λ (s : StateOf Function). site locals own s) r.1)
-of_store Stuck body instr other effect have locals own store after is alone steps r =
+of_store NoRule body instr other effect have locals own store after is alone steps r =
     rw is (alone, (λ bodies. steps bodies ∙ ap (λ e. Does e) r.0), ap (λ (s : StateOf Function). site locals own s) r.1)
 of_store Special body instr other effect have locals own store after is alone steps r = absurd r
 
@@ -53,6 +53,6 @@ of_number (Went n) body instr op have locals own new store is r =
     rw is ((λ rest. refl), r.0, λ bodies. Yielded Nothing (ap (λ e. Does e) r.1) refl refl)
 of_number (Trapped kind) body instr op have locals own new store is r =
     rw is ((λ rest. refl), (λ bodies. ap (λ e. Does e) r.0), ap (λ (vs : List Value). site locals vs store) r.1)
-of_number Stuck body instr op have locals own new store is r =
+of_number NoRule body instr op have locals own new store is r =
     rw is ((λ rest. refl), (λ bodies. ap (λ e. Does e) r.0), ap (λ (vs : List Value). site locals vs store) r.1)
 of_number Special body instr op have locals own new store is r = rw is (r.0, ap (λ (vs : List Value). site locals vs store) r.1)

@@ -10,7 +10,7 @@ use Rattle.wz_store.specs.declared.function.Function.{Function}
 use Rattle.wz_store.specs.State.{StateOf}
 use Rattle.wz_store.specs.Changes.{Nothing}
 use Rattle.wz_machine.specs.declared.plain.Plain.{Plain}
-use Rattle.wz_machine.specs.declared.plain.Plain.TheVariants.{Went, Trapped, Stuck, Special}
+use Rattle.wz_machine.specs.declared.plain.Plain.TheVariants.{Went, Trapped, NoRule, Special}
 use Rattle.wz_machine.specs.Outcomes.{Does, Yields}
 use Rattle.wz_machine.specs.ControlSteps.{br_if_step}
 use Rattle.wz_machine.specs.Stacks.{StackParts}
@@ -30,7 +30,7 @@ pub plain_tried : (done : Bool) (reply : Plain) (instr : Instr) (have now : ℕ)
 plain_tried true reply instr have now old new is r = λ body. subst (λ (x : Plain). PlainReply x body instr have old new) is (r body)
 plain_tried false (Went n) instr have now old new is r = absurd (is.0 n refl)
 plain_tried false (Trapped kind) instr have now old new is r = (is.1, (r no_body).2)
-plain_tried false Stuck instr have now old new is r = (is.1, (r no_body).2)
+plain_tried false NoRule instr have now old new is r = (is.1, (r no_body).2)
 plain_tried false Special instr have now old new is r = (is.1, (r no_body).1)
 
 -- the same of one that memory may be refused for, and which was answered
@@ -39,7 +39,7 @@ pub number_tried : (done : Bool) (reply : Plain) (op : NumOp) (have now : ℕ) (
 number_tried true reply op have now own new is r = subst (λ (x : Plain). NumberReply x op have own new) is r
 number_tried false (Went n) op have now own new is r = absurd (is.0 n refl)
 number_tried false (Trapped kind) op have now own new is r = (is.1, r.1)
-number_tried false Stuck op have now own new is r = (is.1, r.1)
+number_tried false NoRule op have now own new is r = (is.1, r.1)
 number_tried false Special op have now own new is r = (is.1, r.1)
 
 -- a numeric operation

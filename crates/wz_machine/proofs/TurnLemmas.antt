@@ -14,7 +14,7 @@ use Rattle.wz_store.specs.declared.function.Function.{Function}
 use Rattle.wz_store.specs.State.{StateOf}
 use Rattle.wz_store.specs.Changes.{range_of}
 use Rattle.wz_machine.specs.declared.plain.Plain.{Plain}
-use Rattle.wz_machine.specs.declared.plain.Plain.TheVariants.{Went, Trapped, Stuck, Special}
+use Rattle.wz_machine.specs.declared.plain.Plain.TheVariants.{Went, Trapped, NoRule, Special}
 use Rattle.wz_machine.specs.declared.run.Places.{Places}
 use Rattle.wz_machine.specs.State.{State, state_of}
 use Rattle.wz_machine.specs.Terms.{AskFloat}
@@ -197,7 +197,7 @@ same_after i s room new items len store after t same =
 abbrev pub NotWent : Plain → Type 0
 NotWent (Went n) = ⊥
 NotWent (Trapped kind) = Unit {0}
-NotWent Stuck = Unit {0}
+NotWent NoRule = Unit {0}
 NotWent Special = Unit {0}
 
 -- an instruction that didn't go
@@ -216,7 +216,7 @@ turned-in (Trapped kind) i s room new items len store after instr rest t first h
       ),
       r.2,
     )
-turned-in Stuck i s room new items len store after instr rest t first halted r =
+turned-in NoRule i s room new items len store after instr rest t first halted r =
     let same = same_after i s room new items len store after t r.2 in (
       (
         (λ bodies. sticks-at bodies (parts_in i) room i.have store instr rest t.stacked (turn-held i s room new items len t) (turn-own i s room new items len t) first r.0

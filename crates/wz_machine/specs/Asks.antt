@@ -44,7 +44,7 @@ abbrev pub AskTurned : Answer → StackParts → List Instr → AskTurn → Stac
 AskTurned answer before rest turn.Went now = answer ≡ Next Nothing (stacks_term now)
 AskTurned answer before rest (turn.Asks pending count have) now = AskedAt answer (asking_of pending) count have before rest now
 AskTurned answer before rest (turn.Trapped kind) now = (answer ≡ Trap kind) × (now ≡ before)
-AskTurned answer before rest turn.Stuck now = (answer ≡ Stuck) × (now ≡ before)
+AskTurned answer before rest turn.NoRule now = (answer ≡ Stuck) × (now ≡ before)
 
 -- the innermost code comes to this, in any state
 abbrev pub ComesTo : State → StackParts → List Instr → Outcome → Type 0

@@ -16,7 +16,7 @@ use Rattle.wz_store.specs.declared.function.Function.{Function}
 use Rattle.wz_store.specs.State.{StateOf}
 use Rattle.wz_store.specs.Changes.{Change, Nothing, applied}
 use Rattle.wz_machine.specs.declared.plain.Plain.{Plain}
-use Rattle.wz_machine.specs.declared.plain.Plain.TheVariants.{Went, Trapped, Stuck, Special}
+use Rattle.wz_machine.specs.declared.plain.Plain.TheVariants.{Went, Trapped, NoRule, Special}
 use Rattle.wz_machine.specs.State.{state_of}
 use Rattle.wz_machine.specs.Terms.{AskFloat}
 use Rattle.wz_machine.specs.Outcomes.{Effect, Yields, Poses, Fails, HasNoRule, Outcome, Does, SetsLocals}
@@ -33,7 +33,7 @@ used have own = reverse (take have own)
 abbrev pub ValueReply : Plain → Effect → ℕ → List Value → List Value → Type 0
 ValueReply (Went n) effect have own new = (n ≤ have + 1) × (effect ≡ Yields Nothing (used n new))
 ValueReply (Trapped kind) effect have own new = (effect ≡ Fails kind) × (new ≡ own)
-ValueReply Stuck effect have own new = (effect ≡ HasNoRule) × (new ≡ own)
+ValueReply NoRule effect have own new = (effect ≡ HasNoRule) × (new ≡ own)
 ValueReply Special effect have own new = ⊥
 
 -- ---- numeric operations, which may ask
@@ -42,7 +42,7 @@ ValueReply Special effect have own new = ⊥
 abbrev pub AnswerReply : Plain → NumAnswer → ℕ → List Value → List Value → Type 0
 AnswerReply (Went n) given below own new = (n ≡ below + 1) × ((value : Value) × (given ≡ answer.Gives value) × (used n new ≡ value ∷ used below own))
 AnswerReply (Trapped kind) given below own new = (given ≡ answer.Trap kind) × (new ≡ own)
-AnswerReply Stuck given below own new = (given ≡ answer.Stuck) × (new ≡ own)
+AnswerReply NoRule given below own new = (given ≡ answer.Stuck) × (new ≡ own)
 AnswerReply Special given below own new = (given ≡ answer.Ask) × (new ≡ own)
 
 -- how many operands an operation takes, by its second type
@@ -62,7 +62,7 @@ pub record IsAsked (op : NumOp) (have : ℕ) (own : List Value) : Type 0 where
 abbrev pub NumberReply : Plain → NumOp → ℕ → List Value → List Value → Type 0
 NumberReply (Went n) op have own new = (n ≤ have + 1) × (operation_step op (types_of op).second (used have own) ≡ Yields Nothing (used n new))
 NumberReply (Trapped kind) op have own new = (operation_step op (types_of op).second (used have own) ≡ Fails kind) × (new ≡ own)
-NumberReply Stuck op have own new = (operation_step op (types_of op).second (used have own) ≡ HasNoRule) × (new ≡ own)
+NumberReply NoRule op have own new = (operation_step op (types_of op).second (used have own) ≡ HasNoRule) × (new ≡ own)
 NumberReply Special op have own new = IsAsked op have own × (new ≡ own)
 
 -- ---- rules that change the store: they take values away and give none
@@ -75,7 +75,7 @@ pub record ChangedBy (effect : Effect) (n : ℕ) (own : List Value) (store after
 abbrev pub StoreReply : Plain → Effect → ℕ → List Value → StateOf Function → StateOf Function → Type 0
 StoreReply (Went n) effect have own store after = (n ≤ have) × ChangedBy effect n own store after
 StoreReply (Trapped kind) effect have own store after = (effect ≡ Fails kind) × (after ≡ store)
-StoreReply Stuck effect have own store after = (effect ≡ HasNoRule) × (after ≡ store)
+StoreReply NoRule effect have own store after = (effect ≡ HasNoRule) × (after ≡ store)
 StoreReply Special effect have own store after = ⊥
 
 -- ---- rules that set a local
@@ -91,7 +91,7 @@ pub record SetsOneLocal (outcome : Outcome) (n : ℕ) (own locals new : List Val
 abbrev pub LocalReply : Plain → Outcome → ℕ → List Value → List Value → List Value → Type 0
 LocalReply (Went n) outcome have own locals new = (n ≤ have) × SetsOneLocal outcome n own locals new
 LocalReply (Trapped kind) outcome have own locals new = (outcome ≡ Does (Fails kind)) × (new ≡ locals)
-LocalReply Stuck outcome have own locals new = (outcome ≡ Does HasNoRule) × (new ≡ locals)
+LocalReply NoRule outcome have own locals new = (outcome ≡ Does HasNoRule) × (new ≡ locals)
 LocalReply Special outcome have own locals new = ⊥
 
 -- ---- any plain instruction
@@ -141,6 +141,6 @@ PlainReply (Went n) body instr have old new =
     HoldsNone body instr × (n ≤ have + 1) × ((bodies : List BodyParts) → WentOn (step_at body instr have old bodies) n old new)
 PlainReply (Trapped kind) body instr have old new =
     HoldsNone body instr × ((bodies : List BodyParts) → step_at body instr have old bodies ≡ Does (Fails kind)) × (new ≡ old)
-PlainReply Stuck body instr have old new =
+PlainReply NoRule body instr have old new =
     HoldsNone body instr × ((bodies : List BodyParts) → step_at body instr have old bodies ≡ Does HasNoRule) × (new ≡ old)
 PlainReply Special body instr have old new = IsSpecial instr have old.own × (new ≡ old)

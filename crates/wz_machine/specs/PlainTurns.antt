@@ -7,7 +7,7 @@ use Rattle.wz_store.specs.declared.function.Function.{Function}
 use Rattle.wz_store.specs.State.{StateOf}
 use Rattle.wz_store.specs.Changes.{Change, applied}
 use Rattle.wz_machine.specs.declared.plain.Plain.{Plain}
-use Rattle.wz_machine.specs.declared.plain.Plain.TheVariants.{Went, Trapped, Stuck, Special}
+use Rattle.wz_machine.specs.declared.plain.Plain.TheVariants.{Went, Trapped, NoRule, Special}
 use Rattle.wz_machine.specs.State.{state_of}
 use Rattle.wz_machine.specs.Outcomes.{Next, Trap}
 use Rattle.wz_machine.specs.Outcomes as outcome
@@ -43,6 +43,6 @@ abbrev pub PlainTurned : Plain → Instr → StateOf Function → StackParts →
 PlainTurned (Went n) instr store before after now = (bodies : List BodyParts) → PlainWent bodies store before after now
 PlainTurned (Trapped kind) instr store before after now =
     ((bodies : List BodyParts) → step (state_of bodies store) (stacks_term before) ≡ Trap kind) × (now ≡ before) × (after ≡ store)
-PlainTurned Stuck instr store before after now =
+PlainTurned NoRule instr store before after now =
     ((bodies : List BodyParts) → step (state_of bodies store) (stacks_term before) ≡ outcome.Stuck) × (now ≡ before) × (after ≡ store)
 PlainTurned Special instr store before after now = IsSpecialTurn instr before × (now ≡ before) × (after ≡ store)

@@ -3,7 +3,7 @@ use Rattle.std.specs.Prelude.{◌≡◌, ◌⊎◌, ℕ, zero, suc, List, [], �
 use Rattle.wz_code.specs.declared.instr.Instr.{Instr}
 use Rattle.wz_code.specs.declared.instr.Instr.TheVariants.{TableSet, TableInit, TableCopy, TableGrow, TableFill}
 use Rattle.wz_code.specs.BodyParts.{BodyParts}
-use Rattle.wz_machine.specs.declared.plain.Plain.TheVariants.{Went, Trapped, Stuck, Special}
+use Rattle.wz_machine.specs.declared.plain.Plain.TheVariants.{Went, Trapped, NoRule, Special}
 use Rattle.wz_machine.specs.declared.straight.Stop.{Stop}
 use Rattle.wz_machine.specs.declared.straight.Stop.TheVariants as stop
 use Rattle.wz_types.specs.declared.trap.TrapKind.{TrapKind}
@@ -44,7 +44,7 @@ pub data Halts (body : BodyParts) (instr : Instr) (have : ℕ) (at : Site) : Typ
   HaltsForTable : IsTrue (changes_table instr) → Halts body instr have at
   HaltsForSpecial : PlainReply Special body instr have at at → Halts body instr have at
   HaltsForTrap : (kind : TrapKind) → PlainReply (Trapped kind) body instr have at at → Halts body instr have at
-  HaltsStuck : PlainReply Stuck body instr have at at → Halts body instr have at
+  HaltsWithoutRule : PlainReply NoRule body instr have at at → Halts body instr have at
 
 -- the first of the instructions that are left doesn't plainly go on
 pub record HaltsAt (body : BodyParts) (to : Point) : Type 0 where

@@ -29,5 +29,5 @@ abbrev pub Strode : Answer → StoreState → StackParts → Stride → StackPar
 Strode answer s before stride.Went now t = Gone answer s now t
 Strode answer s before (stride.Ends at count) now t = Ended answer before at count now × (t ≡ s)
 Strode answer s before (stride.Trapped kind) now t = (answer ≡ Trap kind) × (now ≡ before) × (t ≡ s)
-Strode answer s before stride.Stuck now t = (answer ≡ Stuck) × (now ≡ before) × (t ≡ s)
+Strode answer s before stride.NoRule now t = (answer ≡ Stuck) × (now ≡ before) × (t ≡ s)
 Strode answer s before (stride.Asks pending count rest have) now t = WillAsk answer before (asking_of pending) count rest.now have × (now ≡ before) × (t ≡ s)

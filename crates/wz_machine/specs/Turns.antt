@@ -28,7 +28,7 @@ abbrev pub Turned : Answer → StackParts → Turn → StackParts → Type 0
 Turned answer before turn.Went now = answer ≡ Next Nothing (stacks_term now)
 Turned answer before (turn.Ends at count) now = Ended answer before at count now
 Turned answer before (turn.Trapped kind) now = (answer ≡ Trap kind) × (now ≡ before)
-Turned answer before turn.Stuck now = (answer ≡ Stuck) × (now ≡ before)
+Turned answer before turn.NoRule now = (answer ≡ Stuck) × (now ≡ before)
 
 -- the same of a step that reads nothing of the state
 abbrev pub TurnedAnywhere : StackParts → Turn → StackParts → Type 0

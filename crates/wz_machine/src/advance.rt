@@ -88,7 +88,7 @@ impl<'m> Stacks<'m> {
             Stride::Went => Ok(true),
             Stride::Ends { at: _, count: _ } => Ok(false),
             Stride::Trapped(_) => Ok(false),
-            Stride::Stuck => Ok(false),
+            Stride::NoRule => Ok(false),
             Stride::Asks {
                 pending: _,
                 count: _,

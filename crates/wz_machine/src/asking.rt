@@ -30,7 +30,7 @@ pub(crate) enum AskTurn<'m> {
         have: usize,
     },
     Trapped(TrapKind),
-    Stuck,
+    NoRule,
 }
 
 /// The last value, where it is a number of 32 bits.
@@ -97,10 +97,10 @@ impl<'m> Stacks<'m> {
             self.old rest.now result self.new }
     {
         let Some(by) = number_in(self.own()) else {
-            return AskTurn::Stuck;
+            return AskTurn::NoRule;
         };
         match memory_room(store, memory, by) {
-            None => AskTurn::Stuck,
+            None => AskTurn::NoRule,
             Some(false) => {
                 self.fail_growth(rest, 1);
                 AskTurn::Went
@@ -130,10 +130,10 @@ impl<'m> Stacks<'m> {
             self.old rest.now result self.new }
     {
         let Some((by, value)) = growth_in(self.own()) else {
-            return AskTurn::Stuck;
+            return AskTurn::NoRule;
         };
         match table_room(store, table, by, value) {
-            None => AskTurn::Stuck,
+            None => AskTurn::NoRule,
             Some(false) => {
                 self.fail_growth(rest, 2);
                 AskTurn::Went

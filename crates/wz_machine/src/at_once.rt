@@ -34,7 +34,7 @@ fn went(turn: Turn) -> bool
         Turn::Went => true,
         Turn::Ends { at: _, count: _ } => false,
         Turn::Trapped(_) => false,
-        Turn::Stuck => false,
+        Turn::NoRule => false,
     }
 }
 
@@ -69,7 +69,7 @@ fn called(turn: Result<AskTurn<'_>, AllocError>) -> bool
             },
         ) => false,
         Ok(AskTurn::Trapped(_)) => false,
-        Ok(AskTurn::Stuck) => false,
+        Ok(AskTurn::NoRule) => false,
         Err(_) => false,
     }
 }

@@ -162,7 +162,7 @@ impl<'m> Stacks<'m> {
         let target = self.target(label);
         let count = target.arity;
         if have - self.height() < count {
-            return Turn::Stuck;
+            return Turn::NoRule;
         }
         if label == self.around() {
             return Turn::Ends {
@@ -214,7 +214,7 @@ impl<'m> Stacks<'m> {
         let have = self.used();
         let count = have - top.height;
         if has_other(top.kind, count, top.arity) {
-            return Turn::Stuck;
+            return Turn::NoRule;
         }
         if self.around() == 0 {
             return Turn::Ends {
@@ -234,7 +234,7 @@ impl<'m> Stacks<'m> {
     {
         let top = self.innermost();
         if label > top.depth {
-            return Turn::Stuck;
+            return Turn::NoRule;
         }
         self.branch(label, have)
     }

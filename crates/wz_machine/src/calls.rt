@@ -129,7 +129,7 @@ impl<'m> Stacks<'m> {
     {
         let params = callee.kind.params().len();
         if have - self.top.height < params {
-            return Ok(AskTurn::Stuck);
+            return Ok(AskTurn::NoRule);
         }
         match callee.code {
             CalleeCode::Own(body) => {
@@ -169,7 +169,7 @@ impl<'m> Stacks<'m> {
         let have = self.have;
         match callee_at(bodies, store, function) {
             Some(callee) => self.call_callee(rest, callee, have),
-            None => Ok(AskTurn::Stuck),
+            None => Ok(AskTurn::NoRule),
         }
     }
 }

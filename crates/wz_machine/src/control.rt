@@ -81,11 +81,11 @@ impl<'m> Stacks<'m> {
         ensures refused { OnErr result (self.new ≡ self.old) }
     {
         let Some(counts) = counts_of(types, shape) else {
-            return Ok(Turn::Stuck);
+            return Ok(Turn::NoRule);
         };
         let top = self.innermost();
         if have - top.height < counts.0 {
-            return Ok(Turn::Stuck);
+            return Ok(Turn::NoRule);
         }
         if loops {
             self.push_block(rest, Kind::Loop(code), code, have, counts.0, counts.0)?;
@@ -126,7 +126,7 @@ impl<'m> Stacks<'m> {
     {
         let have = self.used();
         let Some(number) = self.number() else {
-            return Turn::Stuck;
+            return Turn::NoRule;
         };
         if number == 0 {
             self.step_over(rest, have - 1);
@@ -198,7 +198,7 @@ impl<'m> Stacks<'m> {
     {
         let have = self.used();
         let Some(number) = self.number() else {
-            return Turn::Stuck;
+            return Turn::NoRule;
         };
         let label = listed(self.labels(), first, count, number, last);
         self.jump(label as usize, have - 1)
@@ -286,7 +286,7 @@ impl<'m> Stacks<'m> {
     {
         let have = self.used();
         let Some(number) = self.number() else {
-            return Ok(Turn::Stuck);
+            return Ok(Turn::NoRule);
         };
         let code = self.chosen(number, first, second);
         let turn = self.enter(types, shape, false, code, rest, have - 1)?;

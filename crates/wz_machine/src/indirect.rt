@@ -87,7 +87,7 @@ impl<'m> Stacks<'m> {
     {
         let params = kind.params().len();
         if have - self.top.height < params {
-            return AskTurn::Stuck;
+            return AskTurn::NoRule;
         }
         let pending = Pending::Host {
             target: HostTarget::Foreign(id),
@@ -117,10 +117,10 @@ impl<'m> Stacks<'m> {
     {
         let _ = &self.have;
         match sort {
-            Sort::Extern => AskTurn::Stuck,
+            Sort::Extern => AskTurn::NoRule,
             Sort::OtherFunc => AskTurn::Trapped(TrapKind::IndirectType),
             Sort::Func(number) => match type_at(types, number) {
-                None => AskTurn::Stuck,
+                None => AskTurn::NoRule,
                 Some(actual) => {
                     if !same_function_type(actual, kind) {
                         return AskTurn::Trapped(TrapKind::IndirectType);
@@ -148,7 +148,7 @@ impl<'m> Stacks<'m> {
     {
         let _ = &self.have;
         let Some(callee) = found else {
-            return Ok(AskTurn::Stuck);
+            return Ok(AskTurn::NoRule);
         };
         if !same_function_type(callee.kind, kind) {
             return Ok(AskTurn::Trapped(TrapKind::IndirectType));
@@ -205,13 +205,13 @@ impl<'m> Stacks<'m> {
         ensures refused { OnErr result (self.new ≡ self.old) }
     {
         let Some(at) = number_in(self.own()) else {
-            return Ok(AskTurn::Stuck);
+            return Ok(AskTurn::NoRule);
         };
         let Some(kind) = type_at(store.types(), signature) else {
-            return Ok(AskTurn::Stuck);
+            return Ok(AskTurn::NoRule);
         };
         let Some(entry) = entry_at(store, table, at) else {
-            return Ok(AskTurn::Stuck);
+            return Ok(AskTurn::NoRule);
         };
         let have = self.have.saturating_sub(1);
         self.call_entry(rest, bodies, store, kind, entry, have)

@@ -28,7 +28,7 @@ use wz_types::{TrapKind, Value};
 pub(crate) enum Plain {
     Went(usize),
     Trapped(TrapKind),
-    Stuck,
+    NoRule,
     Special,
 }
 

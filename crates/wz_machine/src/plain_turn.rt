@@ -67,7 +67,7 @@ impl<'m> Stacks<'m> {
                 Ok(Plain::Went(now))
             }
             Plain::Trapped(kind) => Ok(Plain::Trapped(kind)),
-            Plain::Stuck => Ok(Plain::Stuck),
+            Plain::NoRule => Ok(Plain::NoRule),
             Plain::Special => Ok(Plain::Special),
         }
     }

@@ -141,7 +141,7 @@ pub(crate) fn straight<M: Linear>(
         match run_plain(body, instr, locals, own, now, store) {
             Ok(Plain::Went(next)) => now = next,
             Ok(Plain::Trapped(_)) => return halted(made, now),
-            Ok(Plain::Stuck) => return halted(made, now),
+            Ok(Plain::NoRule) => return halted(made, now),
             Ok(Plain::Special) => return halted(made, now),
             Err(_) => {
                 return Pause {

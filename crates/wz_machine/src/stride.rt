@@ -35,7 +35,7 @@ pub(crate) enum Stride<'m> {
         count: usize,
     },
     Trapped(TrapKind),
-    Stuck,
+    NoRule,
     Asks {
         pending: Pending<'m>,
         count: usize,
@@ -53,7 +53,7 @@ fn of_turn<'m>(turn: Turn) -> Stride<'m>
         Turn::Went => Stride::Went,
         Turn::Ends { at, count } => Stride::Ends { at, count },
         Turn::Trapped(kind) => Stride::Trapped(kind),
-        Turn::Stuck => Stride::Stuck,
+        Turn::NoRule => Stride::NoRule,
     }
 }
 
@@ -75,7 +75,7 @@ fn of_asking<'m>(turn: AskTurn<'m>, rest: &'m [Instr]) -> Stride<'m>
             have,
         },
         AskTurn::Trapped(kind) => Stride::Trapped(kind),
-        AskTurn::Stuck => Stride::Stuck,
+        AskTurn::NoRule => Stride::NoRule,
     }
 }
 
@@ -175,7 +175,7 @@ impl<'m> Stacks<'m> {
             | Instr::I32Const(_)
             | Instr::I64Const(_)
             | Instr::F32Const(_)
-            | Instr::F64Const(_) => Ok(Stride::Stuck),
+            | Instr::F64Const(_) => Ok(Stride::NoRule),
         }
     }
 
@@ -203,7 +203,7 @@ impl<'m> Stacks<'m> {
         match self.plain_turn(&instr, rest, store)? {
             Plain::Went(_) => Ok(Stride::Went),
             Plain::Trapped(kind) => Ok(Stride::Trapped(kind)),
-            Plain::Stuck => Ok(Stride::Stuck),
+            Plain::NoRule => Ok(Stride::NoRule),
             Plain::Special => {
                 let stride = self.special(instr, rest, bodies, store)?;
                 Ok(stride)

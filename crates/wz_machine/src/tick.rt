@@ -92,7 +92,7 @@ impl<'m> Stacks<'m> {
             Stride::Ends { at, count } => Tick::Done(Values::new(alloc, self.range(at, count))?),
             Stride::Trapped(kind) => Tick::Trapped(kind),
             // the step has a rule
-            Stride::Stuck => unreachable!(),
+            Stride::NoRule => unreachable!(),
             Stride::Asks {
                 pending,
                 count,

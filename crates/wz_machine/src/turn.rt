@@ -9,5 +9,5 @@ pub(crate) enum Turn {
     Went,
     Ends { at: usize, count: usize },
     Trapped(TrapKind),
-    Stuck,
+    NoRule,
 }

@@ -6,7 +6,7 @@ use Rattle.wz_types.specs.declared.value.Value.TheVariants as value
 use Rattle.wz_num.specs.declared.answer.NumAnswer.{NumAnswer}
 use Rattle.wz_num.specs.declared.answer.NumAnswer.TheVariants as answer
 use Rattle.wz_num.specs.declared.answer.NumResult.{NumResult}
-use Rattle.wz_num.specs.declared.answer.NumResult.TheVariants.{I32, I64, F32, F64, Trap, Ask, Stuck}
+use Rattle.wz_num.specs.declared.answer.NumResult.TheVariants.{I32, I64, F32, F64, Trap, Ask, NoRule}
 use Rattle.wz_num.specs.declared.shapes.OperandShape.{OperandShape}
 use Rattle.wz_num.specs.declared.shapes.OperandShape.TheVariants as shape
 
@@ -18,7 +18,7 @@ answer_of (F32 a) = answer.Gives (value.F32 a)
 answer_of (F64 a) = answer.Gives (value.F64 a)
 answer_of (Trap kind) = answer.Trap kind
 answer_of Ask = answer.Ask
-answer_of Stuck = answer.Stuck
+answer_of NoRule = answer.Stuck
 
 -- the type of the operand that was pushed first, and of the second one
 abbrev pub first_of : OperandShape → ValType

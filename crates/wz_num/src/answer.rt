@@ -23,7 +23,7 @@ pub enum NumResult {
     F64(u64),
     Trap(TrapKind),
     Ask,
-    Stuck,
+    NoRule,
 }
 
 impl From<NumResult> for NumAnswer {
@@ -41,7 +41,7 @@ impl From<NumResult> for NumAnswer {
             NumResult::F64(bits) => NumAnswer::Gives(Value::F64(bits)),
             NumResult::Trap(kind) => NumAnswer::Trap(kind),
             NumResult::Ask => NumAnswer::Ask,
-            NumResult::Stuck => NumAnswer::Stuck,
+            NumResult::NoRule => NumAnswer::Stuck,
         }
     }
 }

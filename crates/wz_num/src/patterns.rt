@@ -127,7 +127,7 @@ macro_rules! narrow {
         match $op {
             $(NumOp::$name => $how!($result, $($value),*),)*
             $($others)*
-            _ => NumResult::Stuck,
+            _ => NumResult::NoRule,
         }
     };
 }
@@ -140,7 +140,7 @@ macro_rules! wide {
         match $op {
             $(NumOp::$name => $how!($result, $($value),*),)*
             $($others)*
-            _ => NumResult::Stuck,
+            _ => NumResult::NoRule,
         }
     };
 }

@@ -25,7 +25,7 @@ pub(super) fn has_gone(reply: Plain, have: &mut usize) -> bool
             *have = now;
             true
         }
-        Plain::Trapped(_) | Plain::Stuck | Plain::Special => false,
+        Plain::Trapped(_) | Plain::NoRule | Plain::Special => false,
     }
 }
 

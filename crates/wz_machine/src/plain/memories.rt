@@ -74,10 +74,10 @@ pub(super) fn load<M: Linear>(
         have own.old own.new }
 {
     let Some(bytes) = store.memory(memory) else {
-        return Plain::Stuck;
+        return Plain::NoRule;
     };
     let Some(base) = number_on(own, have) else {
-        return Plain::Stuck;
+        return Plain::NoRule;
     };
     match bytes.load(place_of(base, offset), access(op).bytes) {
         Some(number) => {
@@ -119,20 +119,20 @@ pub(super) fn store_value<M: Linear>(
 {
     let shape = access(op);
     let Some(value) = value_on(own, have) else {
-        return Ok(Plain::Stuck);
+        return Ok(Plain::NoRule);
     };
     let Some(base) = number_on(own, have - 1) else {
-        return Ok(Plain::Stuck);
+        return Ok(Plain::NoRule);
     };
     let Some(bits) = bits_of(shape.value, value) else {
-        return Ok(Plain::Stuck);
+        return Ok(Plain::NoRule);
     };
     match store.memory_mut(memory) {
         Some(bytes) => {
             let done = bytes.store(place_of(base, offset), bits, shape.bytes)?;
             Ok(gone_or_trapped(done, have - 2))
         }
-        None => Ok(Plain::Stuck),
+        None => Ok(Plain::NoRule),
     }
 }
 
@@ -163,7 +163,7 @@ pub(super) fn memory_size<M: Linear>(
             put(own, have, Value::I32(kind.limits.min));
             Plain::Went(have + 1)
         }
-        None => Plain::Stuck,
+        None => Plain::NoRule,
     }
 }
 
@@ -180,7 +180,7 @@ pub(super) fn memory_fill<M: Linear>(
     ensures refused { OnErr result (store.new ≡ store.old) }
 {
     let Some((to, bits, len)) = three_on(own, have) else {
-        return Ok(Plain::Stuck);
+        return Ok(Plain::NoRule);
     };
     let byte = (bits % 0x100) as u8;
     Ok(done(
@@ -204,7 +204,7 @@ pub(super) fn memory_copy<M: Linear>(
     ensures refused { OnErr result (store.new ≡ store.old) }
 {
     let Some((to, from, len)) = three_on(own, have) else {
-        return Ok(Plain::Stuck);
+        return Ok(Plain::NoRule);
     };
     let answer = wz_bulk::memory_copy(store, to_memory, from_memory, to, from, len)?;
     Ok(done(answer, have - 3))
@@ -225,7 +225,7 @@ pub(super) fn memory_init<M: Linear>(
     ensures refused { OnErr result (store.new ≡ store.old) }
 {
     let Some((to, from, len)) = three_on(own, have) else {
-        return Ok(Plain::Stuck);
+        return Ok(Plain::NoRule);
     };
     let answer = wz_bulk::memory_init(store, segment, memory, to, from, len)?;
     Ok(done(answer, have - 3))

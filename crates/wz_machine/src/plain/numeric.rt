@@ -37,7 +37,7 @@ fn of_one(op: NumOp, operand: Value) -> NumResult
         Value::I64(a) => one_i64(op, a),
         Value::F32(a) => one_f32(op, a),
         Value::F64(a) => one_f64(op, a),
-        Value::Ref(_) => NumResult::Stuck,
+        Value::Ref(_) => NumResult::NoRule,
     }
 }
 
@@ -52,7 +52,7 @@ fn of_two(op: NumOp, first: Value, second: Value) -> NumResult
         (Value::I64(a), Value::I64(b)) => two_i64(op, a, b),
         (Value::F32(a), Value::F32(b)) => two_f32(op, a, b),
         (Value::F64(a), Value::F64(b)) => two_f64(op, a, b),
-        _ => NumResult::Stuck,
+        _ => NumResult::NoRule,
     }
 }
 
@@ -79,7 +79,7 @@ fn settled(own: &mut [Value], below: usize, small: NumResult) -> Plain
         NumResult::F64(bits) => gives(own, below, Value::F64(bits)),
         NumResult::Trap(kind) => Plain::Trapped(kind),
         NumResult::Ask => Plain::Special,
-        NumResult::Stuck => Plain::Stuck,
+        NumResult::NoRule => Plain::NoRule,
     }
 }
 
@@ -173,13 +173,13 @@ pub(super) fn operation(op: NumOp, own: &mut [Value], have: usize) -> Plain
     ensures { NumberReply result op have own.old own.new }
 {
     let Some(last) = value_on(own, have) else {
-        return Plain::Stuck;
+        return Plain::NoRule;
     };
     match signature(op).second {
         None => settled(own, have - 1, of_one(op, last)),
         Some(_) => {
             let Some(first) = value_on(own, have - 1) else {
-                return Plain::Stuck;
+                return Plain::NoRule;
             };
             settled(own, have - 2, of_two(op, first, last))
         }

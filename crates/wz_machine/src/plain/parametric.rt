@@ -15,7 +15,7 @@ pub(super) fn drop_value(own: &[Value], have: usize) -> Plain
 {
     match value_on(own, have) {
         Some(_) => Plain::Went(have - 1),
-        None => Plain::Stuck,
+        None => Plain::NoRule,
     }
 }
 
@@ -25,13 +25,13 @@ pub(super) fn select(own: &mut [Value], have: usize) -> Plain
     ensures { ValueReply result (select_step (used have own.old)) have own.old own.new }
 {
     let Some(condition) = number_on(own, have) else {
-        return Plain::Stuck;
+        return Plain::NoRule;
     };
     let Some(second) = value_on(own, have - 1) else {
-        return Plain::Stuck;
+        return Plain::NoRule;
     };
     let Some(_) = value_on(own, have - 2) else {
-        return Plain::Stuck;
+        return Plain::NoRule;
     };
     if condition == 0 {
         put(own, have - 3, second);

@@ -27,7 +27,7 @@ pub(super) fn ref_is_null(own: &mut [Value], have: usize) -> Plain
     ensures { ValueReply result (ref_is_null_step (used have own.old)) have own.old own.new }
 {
     let Some(reference) = reference_on(own, have) else {
-        return Plain::Stuck;
+        return Plain::NoRule;
     };
     let is_null = match reference {
         Reference::Null(_) => 1,
@@ -50,7 +50,7 @@ pub(super) fn ref_func<M: Linear>(
         (used have own.old)) have own.old own.new }
 {
     if store.function(index).is_none() {
-        return Plain::Stuck;
+        return Plain::NoRule;
     }
     put(own, have, Value::Ref(Reference::Fn(index)));
     Plain::Went(have + 1)

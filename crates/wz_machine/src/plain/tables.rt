@@ -21,7 +21,7 @@ pub(super) fn done(answer: Bulk, below: usize) -> Plain
     match answer {
         Bulk::Did => Plain::Went(below),
         Bulk::Trap(kind) => Plain::Trapped(kind),
-        Bulk::Stuck => Plain::Stuck,
+        Bulk::Stuck => Plain::NoRule,
     }
 }
 
@@ -37,7 +37,7 @@ pub(super) fn table_get<M: Linear>(
         have own.old own.new }
 {
     let Some(at) = number_on(own, have) else {
-        return Plain::Stuck;
+        return Plain::NoRule;
     };
     match wz_bulk::table_get(store, table, at) {
         Ok(reference) => {
@@ -45,7 +45,7 @@ pub(super) fn table_get<M: Linear>(
             Plain::Went(have)
         }
         Err(Bulk::Trap(kind)) => Plain::Trapped(kind),
-        Err(Bulk::Stuck | Bulk::Did) => Plain::Stuck,
+        Err(Bulk::Stuck | Bulk::Did) => Plain::NoRule,
     }
 }
 
@@ -61,10 +61,10 @@ pub(super) fn table_set<M: Linear>(
         have own.now store.old store.new }
 {
     let Some(reference) = reference_on(own, have) else {
-        return Plain::Stuck;
+        return Plain::NoRule;
     };
     let Some(at) = number_on(own, have - 1) else {
-        return Plain::Stuck;
+        return Plain::NoRule;
     };
     done(wz_bulk::table_set(store, table, at, reference), have - 2)
 }
@@ -85,7 +85,7 @@ pub(super) fn table_size<M: Linear>(
             put(own, have, Value::I32(size));
             Plain::Went(have + 1)
         }
-        None => Plain::Stuck,
+        None => Plain::NoRule,
     }
 }
 
@@ -101,13 +101,13 @@ pub(super) fn table_fill<M: Linear>(
         have own.now store.old store.new }
 {
     let Some(len) = number_on(own, have) else {
-        return Plain::Stuck;
+        return Plain::NoRule;
     };
     let Some(reference) = reference_on(own, have - 1) else {
-        return Plain::Stuck;
+        return Plain::NoRule;
     };
     let Some(to) = number_on(own, have - 2) else {
-        return Plain::Stuck;
+        return Plain::NoRule;
     };
     done(
         wz_bulk::table_fill(store, table, to, reference, len),
@@ -129,7 +129,7 @@ pub(super) fn table_copy<M: Linear>(
         have own.now store.old store.new }
 {
     let Some((to, from, len)) = three_on(own, have) else {
-        return Plain::Stuck;
+        return Plain::NoRule;
     };
     let answer = wz_bulk::table_copy(store, to_table, from_table, to, from, len);
     done(answer, have - 3)
@@ -149,7 +149,7 @@ pub(super) fn table_init<M: Linear>(
         have own.now store.old store.new }
 {
     let Some((to, from, len)) = three_on(own, have) else {
-        return Plain::Stuck;
+        return Plain::NoRule;
     };
     let answer = wz_bulk::table_init(store, segment, table, to, from, len);
     done(answer, have - 3)

@@ -22,7 +22,7 @@ pub(super) fn local_get(index: u32, locals: &[Value], own: &mut [Value], have: u
             put(own, have, *value);
             Plain::Went(have + 1)
         }
-        None => Plain::Stuck,
+        None => Plain::NoRule,
     }
 }
 
@@ -34,14 +34,14 @@ pub(super) fn local_set(index: u32, locals: &mut [Value], own: &[Value], have: u
         have own.now locals.old locals.new }
 {
     if index as usize >= locals.len() {
-        return Plain::Stuck;
+        return Plain::NoRule;
     }
     match value_on(own, have) {
         Some(value) => {
             locals[index as usize] = value;
             Plain::Went(have - 1)
         }
-        None => Plain::Stuck,
+        None => Plain::NoRule,
     }
 }
 
@@ -53,14 +53,14 @@ pub(super) fn local_tee(index: u32, locals: &mut [Value], own: &[Value], have: u
         have own.now locals.old locals.new }
 {
     if index as usize >= locals.len() {
-        return Plain::Stuck;
+        return Plain::NoRule;
     }
     match value_on(own, have) {
         Some(value) => {
             locals[index as usize] = value;
             Plain::Went(have)
         }
-        None => Plain::Stuck,
+        None => Plain::NoRule,
     }
 }
 
@@ -81,7 +81,7 @@ pub(super) fn global_get<M: Linear>(
             put(own, have, value);
             Plain::Went(have + 1)
         }
-        None => Plain::Stuck,
+        None => Plain::NoRule,
     }
 }
 
@@ -99,14 +99,14 @@ pub(super) fn global_set<M: Linear>(
         have own.now store.old store.new }
 {
     let Some(kind) = store.global_type(index) else {
-        return Plain::Stuck;
+        return Plain::NoRule;
     };
     let Some(value) = value_on(own, have) else {
-        return Plain::Stuck;
+        return Plain::NoRule;
     };
     let types = store.types().len() as u32;
     if !value.fits(kind.value, store.function_count(), types) {
-        return Plain::Stuck;
+        return Plain::NoRule;
     }
     store.set_global(index, value);
     Plain::Went(have - 1)

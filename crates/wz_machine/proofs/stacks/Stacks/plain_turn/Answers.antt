@@ -1,5 +1,5 @@
 use Rattle.std.proofs.Common.{[], length, ap, arith}
-use Rattle.wz_machine.specs.declared.plain.Plain.TheVariants.{Trapped, Stuck, Special}
+use Rattle.wz_machine.specs.declared.plain.Plain.TheVariants.{Trapped, NoRule, Special}
 use Rattle.wz_machine.proofs.TurnLemmas.{IsTurn, same_after, turned_after, went_after, went_used, on_err}
 use Rattle.wz_machine.proofs.stacks.Stacks.plain_turn.Goals as goal
 
@@ -70,8 +70,8 @@ returns-in-Trapped-clause-turned g c =
     let reply = rw c.in-Trapped.is at c.in_ok-reply.ensures.reply in
     turned_after (Trapped c.in-Trapped.kind) c.self.inside c.args.self.now c.deref_mut.result.now c.plain_in.new.values c.make_room.new.values.items c.make_room.new.values.len c.args.store.now c.plain_in.new.store c.args.instr.now c.args.rest.now t c.requires tt reply
 
-pub returns-in-Stuck-clause-turned : goal.returns-in-Stuck-clause-turned
-returns-in-Stuck-clause-turned g c =
+pub returns-in-NoRule-clause-turned : goal.returns-in-NoRule-clause-turned
+returns-in-NoRule-clause-turned g c =
     let t : IsTurn c.self.inside c.args.self.now c.deref_mut.result.now c.plain_in.new.values c.make_room.new.values.items c.make_room.new.values.len = record {
       view = c.self.view_is;
       used = c.self.invariant.used;
@@ -83,7 +83,7 @@ returns-in-Stuck-clause-turned g c =
       full = c.deref_mut.ensures.len;
       apart = c.plain_in.ensures.apart;
     } in
-    let reply = rw c.in-Stuck.is at c.in_ok-reply.ensures.reply in
+    let reply = rw c.in-NoRule.is at c.in_ok-reply.ensures.reply in
     turned_after Stuck c.self.inside c.args.self.now c.deref_mut.result.now c.plain_in.new.values c.make_room.new.values.items c.make_room.new.values.len c.args.store.now c.plain_in.new.store c.args.instr.now c.args.rest.now t c.requires tt reply
 
 pub returns-in-Special-clause-turned : goal.returns-in-Special-clause-turned

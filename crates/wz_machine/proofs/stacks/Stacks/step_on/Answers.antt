@@ -15,9 +15,9 @@ returns-in-Trapped-clause-stepped g c =
     let strode = rw c.in-Trapped.is at c.in_ok-stride.ensures.strode in
     halts_here c.args.bodies.now c.args.store.now c.stride.new.store c.args.self.now c.stride.new.self _ strode.1 strode.2 strode.0 tt
 
-pub returns-in-Stuck-clause-stepped : goal.returns-in-Stuck-clause-stepped
-returns-in-Stuck-clause-stepped g c =
-    let strode = rw c.in-Stuck.is at c.in_ok-stride.ensures.strode in
+pub returns-in-NoRule-clause-stepped : goal.returns-in-NoRule-clause-stepped
+returns-in-NoRule-clause-stepped g c =
+    let strode = rw c.in-NoRule.is at c.in_ok-stride.ensures.strode in
     halts_here c.args.bodies.now c.args.store.now c.stride.new.store c.args.self.now c.stride.new.self _ strode.1 strode.2 strode.0 tt
 
 pub returns-in-Asks-clause-stepped : goal.returns-in-Asks-clause-stepped
