@@ -7,7 +7,7 @@ use Rattle.wz_code.specs.declared.accesses.AccessShape.{AccessShape}
 use Rattle.wz_bulk.specs.declared.bulk.Bulk.{Bulk}
 use Rattle.wz_bulk.specs.declared.bulk.Bulk.TheVariants as bulk
 use Rattle.wz_machine.specs.declared.plain.Plain.{Plain}
-use Rattle.wz_machine.specs.declared.plain.Plain.TheVariants.{Went, Trapped, Stuck}
+use Rattle.wz_machine.specs.declared.plain.Plain.TheVariants.{Went, Trapped, NoRule}
 use Rattle.wz_machine.specs.MemorySteps.{value_of_bits, extension, bits_in}
 use Rattle.wz_machine.specs.PlainSteps.{used}
 
@@ -46,7 +46,7 @@ three_on_top values = None
 abbrev pub reply_of : ℕ → Bulk → Plain
 reply_of below bulk.Did = Went below
 reply_of below (bulk.Trap kind) = Trapped kind
-reply_of below bulk.Stuck = Stuck
+reply_of below bulk.Stuck = NoRule
 
 -- ---- the value that a load makes of the number that its bytes are
 

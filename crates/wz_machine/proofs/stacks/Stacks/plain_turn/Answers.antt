@@ -84,7 +84,7 @@ returns-in-NoRule-clause-turned g c =
       apart = c.plain_in.ensures.apart;
     } in
     let reply = rw c.in-NoRule.is at c.in_ok-reply.ensures.reply in
-    turned_after Stuck c.self.inside c.args.self.now c.deref_mut.result.now c.plain_in.new.values c.make_room.new.values.items c.make_room.new.values.len c.args.store.now c.plain_in.new.store c.args.instr.now c.args.rest.now t c.requires tt reply
+    turned_after NoRule c.self.inside c.args.self.now c.deref_mut.result.now c.plain_in.new.values c.make_room.new.values.items c.make_room.new.values.len c.args.store.now c.plain_in.new.store c.args.instr.now c.args.rest.now t c.requires tt reply
 
 pub returns-in-Special-clause-turned : goal.returns-in-Special-clause-turned
 returns-in-Special-clause-turned g c =
