@@ -41,6 +41,13 @@ reaches_add m (suc n) s between after term middle new first (x, t, rest, on, non
     let more : suc (m + n) ≡ m + suc n = omega arith in
     subst (λ k. Reaches k s term after new) more (x, t, reaches_add m n s between x term middle t first rest, on, none)
 
+-- the same, counted by how many are left of a limit
+pub reaches_left : (limit left n : ℕ) (s between after : State) (term middle new : Term) → left ≤ limit → n ≤ left → Reaches (limit - left) s term between middle
+    → Reaches n between middle after new → Reaches (limit - (left - n)) s term after new
+reaches_left limit left n s between after term middle new few within first rest =
+    let count : limit - left + n ≡ limit - (left - n) = omega (arith, few, within) in
+    subst (λ k. Reaches k s term after new) count (reaches_add (limit - left) n s between after term middle new first rest)
+
 -- one step more, that enters no function
 pub reaches_more : (m n : ℕ) (s between after : State) (term middle new : Term) → n ≡ m + 1 → Reaches m s term between middle → StepsOn between middle after new
     → EntersNone middle new → Reaches n s term after new

@@ -143,27 +143,27 @@ impl<'m> Stacks<'m> {
             (state_of bodies.now store.old) (stacks_term self.old)
             (state_of bodies.now store.new) (stacks_term self.new)) }
     {
-        let mut made = 0;
-        while made < limit {
-            let pause = self.run((limit - made) as usize, store)?;
-            made += pause.made as u64;
-            if made == limit {
-                *count = made;
+        let mut left = limit;
+        while left > 0 {
+            let pause = self.run(left as usize, store)?;
+            left -= pause.made as u64;
+            if left == 0 {
+                *count = limit;
                 return Ok(false);
             }
             match self.onward(bodies, store)? {
-                Onward::Went => made += 1,
+                Onward::Went => left -= 1,
                 Onward::Halts => {
-                    *count = made;
+                    *count = limit - left;
                     return Ok(false);
                 }
                 Onward::Entered => {
-                    *count = made + 1;
+                    *count = limit - left + 1;
                     return Ok(true);
                 }
             }
         }
-        *count = made;
+        *count = limit;
         Ok(false)
     }
 }

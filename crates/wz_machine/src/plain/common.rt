@@ -46,7 +46,7 @@ fn passes(own: &[Value], have: &mut usize) -> bool
 
 /// A load or a store.
 #[inline(always)]
-fn accesses<M: Linear>(
+fn access_by<M: Linear>(
     op: MemOp,
     offset: u32,
     memory: u32,
@@ -65,6 +65,36 @@ fn accesses<M: Linear>(
         }
     } else {
         has_gone(memories::load(op, offset, memory, own, *have, store), have)
+    }
+}
+
+/// An arm for each of these accesses, so that each is known where it is worked out.
+macro_rules! each {
+    ($op:ident $offset:ident $memory:ident $own:ident $have:ident $store:ident: $($name:ident)*) => {
+        match $op {
+            $(MemOp::$name => access_by(MemOp::$name, $offset, $memory, $own, $have, $store),)*
+            _ => access_by($op, $offset, $memory, $own, $have, $store),
+        }
+    };
+}
+
+/// The same, with an arm for each of those that are met most.
+#[inline(always)]
+fn accesses<M: Linear>(
+    op: MemOp,
+    offset: u32,
+    memory: u32,
+    own: &mut [Value],
+    have: &mut usize,
+    store: &mut Store<'_, M>,
+) -> bool
+    requires { have.old < length own.old }
+    ensures { (align : ℕ) (locals : List Value) → PlainTried result (Access op align offset memory)
+        have.old have.new (site locals own.old store.old) (site locals own.new store.new) }
+{
+    each! {
+        op offset memory own have store:
+            I32Load I64Load I32Load8U I32Store I64Store I32Store8
     }
 }
 

@@ -7,6 +7,7 @@ ghost use Rattle.wz_num.specs.Answers.{answer_of};
 ghost use Rattle.wz_num.specs.Number.{number};
 ghost use Rattle.wz_machine.specs.PlainSteps.{used, ValueReply, AnswerReply, NumberReply};
 ghost use Rattle.wz_num.specs.declared.answer.NumAnswer.TheVariants as answer;
+ghost use Rattle.wz_types.specs.declared.value.Value.TheVariants as value;
 ghost use Rattle.wz_machine.specs.Tried.{NumberTried};
 ghost use Rattle.wz_machine.specs.NumericSteps.{const_step};
 
@@ -66,6 +67,32 @@ fn gives(own: &mut [Value], below: usize, value: Value) -> Plain
     Plain::Went(below + 1)
 }
 
+/// The same of an i32: where one lay there, its bits are all that is written.
+#[inline(always)]
+fn gives_i32(own: &mut [Value], below: usize, bits: u32) -> Plain
+    requires { below < length own.old }
+    ensures { AnswerReply result (answer.Gives (value.I32 bits)) below own.old own.new }
+{
+    match &mut own[below] {
+        Value::I32(place) => *place = bits,
+        place => *place = Value::I32(bits),
+    }
+    Plain::Went(below + 1)
+}
+
+/// The same of an i64.
+#[inline(always)]
+fn gives_i64(own: &mut [Value], below: usize, bits: u64) -> Plain
+    requires { below < length own.old }
+    ensures { AnswerReply result (answer.Gives (value.I64 bits)) below own.old own.new }
+{
+    match &mut own[below] {
+        Value::I64(place) => *place = bits,
+        place => *place = Value::I64(bits),
+    }
+    Plain::Went(below + 1)
+}
+
 /// Puts an operation's result behind so many values.
 #[inline(always)]
 fn settled(own: &mut [Value], below: usize, small: NumResult) -> Plain
@@ -73,8 +100,8 @@ fn settled(own: &mut [Value], below: usize, small: NumResult) -> Plain
     ensures { AnswerReply result (answer_of small) below own.old own.new }
 {
     match small {
-        NumResult::I32(bits) => gives(own, below, Value::I32(bits)),
-        NumResult::I64(bits) => gives(own, below, Value::I64(bits)),
+        NumResult::I32(bits) => gives_i32(own, below, bits),
+        NumResult::I64(bits) => gives_i64(own, below, bits),
         NumResult::F32(bits) => gives(own, below, Value::F32(bits)),
         NumResult::F64(bits) => gives(own, below, Value::F64(bits)),
         NumResult::Trap(kind) => Plain::Trapped(kind),

@@ -6,7 +6,7 @@ use Rattle.wz_machine.specs.MemorySteps.{load_step, store_step}
 use Rattle.wz_machine.specs.PlainSteps.{used, site}
 use Rattle.wz_machine.proofs.ReplyLemmas.{of_values, of_store}
 use Rattle.wz_machine.proofs.TriedLemmas.{plain_tried}
-use Rattle.wz_machine.proofs.plain.common.accesses.Goals as goal
+use Rattle.wz_machine.proofs.plain.common.access_by.Goals as goal
 
 pub returns-in-Ok : goal.returns-in-Ok
 returns-in-Ok g c align locals =
