@@ -1,5 +1,6 @@
 -- Many steps, put together.
 use Rattle.std.proofs.Common.{◌≡◌, ◌≤◌, ◌<◌, ◌+◌, ◌-◌, ◌⊎◌, ℕ, zero, suc, List, [], ◌∷◌, Option, Some, MatchBool, Result, Ok, Err, OnErr, Bool, true, false, IsTrue, IsFalse, inl, inr, length, take, slice_get, get_or, set, refl, ap, sym, subst, ◌∙◌, arith}
+use Rattle.std.proofs.lemmas.List.{nil_from_length}
 use Rattle.wz_code.specs.declared.instr.Instr.{Instr}
 use Rattle.wz_code.specs.declared.instr.Instr.TheVariants.{Block, Loop, If, Br, BrIf}
 use Rattle.wz_code.specs.BodyParts.{BodyParts}
@@ -13,16 +14,16 @@ use Rattle.wz_machine.specs.Outcomes.{Answer, Next}
 use Rattle.wz_machine.specs.Step.{step}
 use Rattle.wz_machine.specs.Next.{Head, head_of, next}
 use Rattle.wz_machine.specs.Frames.{frame_count, local_count}
-use Rattle.wz_machine.specs.Stacks.{LoopEntry, Entry, StackParts, stacks_term, IsStacked}
+use Rattle.wz_machine.specs.Stacks.{CallEntry, LoopEntry, Entry, StackParts, stacks_term, IsStacked}
 use Rattle.wz_machine.specs.Straight.{changes_table}
 use Rattle.wz_machine.specs.Strides.{Gone}
 use Rattle.wz_machine.specs.Turns.{HasNumber}
-use Rattle.wz_machine.specs.Landing.{IsAgain}
-use Rattle.wz_machine.specs.Advance.{head_changes_table, StandingAdvanced, StackAdvanced, IsAdvancePart, StandingAdvancedPart, StackAdvancedPart, StepsOn, EntersNone, Enters, Reaches, ReachesEntry, GoesNot, HaltsNext, IsStepOn, IsOnward, BranchesHere, BeginsAnew, Repeats}
+use Rattle.wz_machine.specs.Landing.{IsAgain, IsLeft}
+use Rattle.wz_machine.specs.Advance.{head_changes_table, StandingAdvanced, StackAdvanced, IsAdvancePart, StandingAdvancedPart, StackAdvancedPart, StepsOn, EntersNone, Enters, Reaches, ReachesEntry, GoesNot, HaltsNext, IsStepOn, IsOnward, BranchesHere, BeginsAnew, StaysWithin}
 use Rattle.wz_machine.specs.declared.advance.Onward.TheVariants as onward
 use Rattle.wz_machine.proofs.BranchLemmas.{branch-again}
-use Rattle.wz_machine.proofs.KeptLemmas.{again-stacked}
-use Rattle.wz_machine.proofs.StepLemmas.{jump-lands}
+use Rattle.wz_machine.proofs.KeptLemmas.{again-stacked, left-stacked, found-at, counts-fall}
+use Rattle.wz_machine.proofs.StepLemmas.{jump-lands, end-left-by}
 use Rattle.wz_machine.proofs.ControlLemmas.{br-reduct, br_if-reduct}
 use Rattle.wz_machine.proofs.CountLemmas.{frames_counted, locals_counted}
 use Rattle.wz_machine.proofs.ChangeLemmas.{change_reaches_state}
@@ -182,14 +183,42 @@ begins_anew s now have target again stacked same lt arity own within base kind b
       };
     }
 
-repeats_by : (s now : StackParts) (have : ℕ) → BranchesHere s have → BeginsAnew s have now → Repeats s now
+repeats_by : (s now : StackParts) (have : ℕ) → BranchesHere s have → BeginsAnew s have now → StaysWithin s now
 repeats_by s now have here anew = record { turned = λ st. anew.turned st (here.reduct st); spares = here.spares; none = anew.none }
 
 pub repeats_if : (done : Bool) (s now : StackParts) (have : ℕ) → BranchesHere s have → MatchBool done (BeginsAnew s have now) (now ≡ s)
-    → MatchBool done (Repeats s now) (now ≡ s)
+    → MatchBool done (StaysWithin s now) (now ≡ s)
 repeats_if true s now have here anew = repeats_by s now have here anew
 repeats_if false s now have here same = same
 
+-- ---- the end of a block or a function
+
+left_enters_none : (s now : StackParts) (have count : ℕ) → IsStacked s → have ≤ length s.values → s.top.base + count ≤ have → IsLeft s 0 s.top.base have count now
+    → EntersNone (stacks_term s) (stacks_term now)
+left_enters_none s now have count stacked within carried left =
+    let after : IsStacked now = left-stacked s now 0 have count s.top stacked refl within carried left in
+    let found = found-at 0 s.top s.top now.top s.outer stacked.room stacked.stacked refl left.parent in
+    let fall : (now.top.frames ≤ s.top.frames) × (now.top.frame_locals ≤ s.top.frame_locals) = counts-fall s.top.kind s.top now.top found.kind in
+    record {
+      frames = omega (arith, frames_counted s stacked, frames_counted now after, fall.0);
+      locals = omega (arith, locals_counted s stacked, locals_counted now after, fall.1);
+    }
+
+pub ends_within : (s now : StackParts) (top : Entry) (rest : List Instr) (have : ℕ) → IsStacked s → top ≡ s.top → rest ≡ s.top.rest → length rest ≡ 0
+    → have ≡ length s.values → top.height ≤ have → (top.kind ≡ CallEntry → have - top.height ≡ top.arity) → IsLeft s 0 top.base have (have - top.height) now
+    → StaysWithin s now
+ends_within s now top rest have stacked same first none len own results left =
+    let inner : s.top.base ≤ s.top.height = stacked.room.base in
+    let base : top.base ≤ top.height = subst (λ (e : Entry). e.base ≤ e.height) (sym same) inner in
+    let leaves : IsLeft s 0 s.top.base have (have - top.height) now = subst (λ (e : Entry). IsLeft s 0 e.base have (have - top.height) now) same left in
+    record {
+      turned = λ st. end-left-by st s now top have stacked (sym first ∙ nil_from_length rest none) same len results left;
+      spares = sym (no_table_next s rest first none);
+      none = left_enters_none s now have (have - top.height) stacked (omega (arith, len)) (omega (arith, own, base, ap (λ (e : Entry). e.base) same)) leaves;
+    }
+
+-- ---- a step that enters no function
+
 -- it is a step of a run
-pub repeats_on : (s now : StackParts) (st : State) → Repeats s now → StepsOn st (stacks_term s) st (stacks_term now) × EntersNone (stacks_term s) (stacks_term now)
-repeats_on s now st r = (record { change = Nothing; goes = r.turned st; state = refl; spares = r.spares }, r.none)
+pub within_on : (s now : StackParts) (st : State) → StaysWithin s now → StepsOn st (stacks_term s) st (stacks_term now) × EntersNone (stacks_term s) (stacks_term now)
+within_on s now st r = (record { change = Nothing; goes = r.turned st; state = refl; spares = r.spares }, r.none)

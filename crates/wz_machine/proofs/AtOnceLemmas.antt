@@ -1,5 +1,5 @@
 -- Steps that are told by one bit.
-use Rattle.std.proofs.Common.{◌≡◌, List, ◌∷◌, Bool, true, false, length, refl, sym, ◌∙◌}
+use Rattle.std.proofs.Common.{◌≡◌, List, ◌∷◌, Bool, true, false, refl, sym, ◌∙◌}
 use Rattle.wz_code.specs.declared.instr.Instr.{Instr}
 use Rattle.wz_store.specs.Changes.{Nothing}
 use Rattle.wz_machine.specs.State.{State}
@@ -9,17 +9,12 @@ use Rattle.wz_machine.specs.Stacks.{StackParts, stacks_term}
 use Rattle.wz_machine.specs.Straight.{changes_table}
 use Rattle.wz_machine.specs.Advance.{StepsOn}
 use Rattle.wz_machine.specs.AtOnce.{SparesTables}
-use Rattle.wz_machine.proofs.AdvanceLemmas.{table_next, no_table_next}
+use Rattle.wz_machine.proofs.AdvanceLemmas.{table_next}
 
 -- the instruction in front changes no table
 pub spares_made : (made : Bool) (s : StackParts) (instr : Instr) (rest : List Instr) → s.top.rest ≡ instr ∷ rest → changes_table instr ≡ false → SparesTables made s
 spares_made true s instr rest first none = sym (table_next s instr rest first) ∙ none
 spares_made false s instr rest first none = tt
-
--- none is in front
-pub spares_ended : (made : Bool) (s : StackParts) (rest : List Instr) → rest ≡ s.top.rest → length rest ≡ 0 → SparesTables made s
-spares_ended true s rest same none = sym (no_table_next s rest same none)
-spares_ended false s rest same none = tt
 
 -- one that was made is one of a run
 pub steps_on : (st : State) (s now : StackParts) → step st (stacks_term s) ≡ Next Nothing (stacks_term now) → SparesTables true s

@@ -129,7 +129,7 @@ base-falls (suc label) child target [] room stacked here = cc
 base-falls (suc label) child target (first ∷ outer) room stacked here =
     omega (arith, base-falls label first target outer stacked.2 stacked.3 here, stacked.1, room.base)
 
-counts-fall : (kind : EntryKind) (child parent : Entry) → IsKindIn kind child parent → (parent.frames ≤ child.frames) × (parent.frame_locals ≤ child.frame_locals)
+pub counts-fall : (kind : EntryKind) (child parent : Entry) → IsKindIn kind child parent → (parent.frames ≤ child.frames) × (parent.frame_locals ≤ child.frame_locals)
 counts-fall CallEntry child parent h = (omega (arith, h.frames), omega (arith, h.frame_locals))
 counts-fall BlockEntry child parent h = (omega (arith, h.frames), omega (arith, h.frame_locals))
 counts-fall (LoopEntry again) child parent h = (omega (arith, h.frames), omega (arith, h.frame_locals))

@@ -63,8 +63,10 @@ pub record BeginsAnew (before : StackParts) (have : ℕ) (now : StackParts) : Ty
   pub turned : JumpTurned before 0 have turn.Went now
   pub none : EntersNone (stacks_term before) (stacks_term now)
 
--- the next step begins it anew, in any state
-pub record Repeats (before now : StackParts) : Type 0 where
+-- ---- a step that reads nothing of the state and enters no function
+
+-- the next step, in any state
+pub record StaysWithin (before now : StackParts) : Type 0 where
   pub turned : TurnedAnywhere before turn.Went now
   pub spares : IsFalse (head_changes_table (next (stacks_term before)))
   pub none : EntersNone (stacks_term before) (stacks_term now)

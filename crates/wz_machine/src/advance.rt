@@ -115,6 +115,9 @@ impl<'m> Stacks<'m> {
         if self.repeats() {
             return Ok(Onward::Went);
         }
+        if self.ends() {
+            return Ok(Onward::Went);
+        }
         let frames = self.frames();
         let locals = self.frame_locals();
         if self.at_once(bodies, store) {

@@ -4,7 +4,7 @@
 //! They are the steps that a run meets most, so each is a small function that answers in a
 //! register.
 
-ghost use Rattle.std.specs.Prelude.{◌≡◌, [], ◌∷◌, List, IfOk, OnErr};
+ghost use Rattle.std.specs.Prelude.{◌≡◌, ◌∷◌, List, IfOk, OnErr};
 ghost use Rattle.wz_types.specs.FunctionType.{FunctionType};
 ghost use Rattle.wz_code.specs.declared.instr.Instr.{Instr};
 ghost use Rattle.wz_machine.specs.State.{state_of};
@@ -75,15 +75,6 @@ fn called(turn: Result<AskTurn<'_>, AllocError>) -> bool
 }
 
 impl<'m> Stacks<'m> {
-    /// The end of a block or a function.
-    #[inline(always)]
-    fn end_at_once(&mut self) -> bool
-        requires { self.old.top.rest ≡ [] }
-        ensures { MadeAnywhere result self.old self.new }
-    {
-        went(self.finish())
-    }
-
     #[inline(never)]
     fn br_at_once(&mut self, label: u32, rest: &'m [Instr]) -> bool
         requires { self.old.top.rest ≡ Instr.Br label ∷ rest.now }
@@ -174,7 +165,7 @@ impl<'m> Stacks<'m> {
         called(self.call(rest, function, bodies, store))
     }
 
-    /// One step of the term, where a control instruction or an end is in front.
+    /// One step of the term, where a control instruction is in front.
     #[inline(always)]
     pub fn at_once<M: Linear>(&mut self, bodies: &'m [Body], store: &Store<'m, M>) -> bool
         ensures made { MadeBy (step (state_of bodies.now store.now) (stacks_term self.old))
@@ -183,7 +174,7 @@ impl<'m> Stacks<'m> {
     {
         let top = self.innermost();
         let Some((instr, rest)) = split(top.rest) else {
-            return self.end_at_once();
+            return false;
         };
         let types = store.types();
         match instr {

@@ -5,7 +5,7 @@ ghost use Rattle.std.specs.Prelude.{◌≡◌, ◌+◌, ◌≤◌, ◌<◌, [], 
 ghost use Rattle.wz_machine.specs.Kept.{entry_of, entry_kind};
 ghost use Rattle.wz_machine.specs.Stacks.{CallEntry, LoopEntry, IsStacked};
 ghost use Rattle.wz_machine.specs.Landing.{landing, ending, IsLeft, IsAgain};
-ghost use Rattle.wz_machine.specs.Advance.{BeginsAnew};
+ghost use Rattle.wz_machine.specs.Advance.{BeginsAnew, StaysWithin};
 ghost use Rattle.wz_machine.specs.Turns.{Turned, TurnedAnywhere, JumpTurned, ReturnTurned, own_of};
 
 use crate::room::move_down;
@@ -224,6 +224,28 @@ impl<'m> Stacks<'m> {
         }
         self.leave_last(have, count);
         Turn::Went
+    }
+
+    /// The same where it has no more instructions and stands within another, so that the term goes
+    /// on.
+    #[inline(always)]
+    pub fn ends(&mut self) -> bool
+        ensures { MatchBool result (StaysWithin self.old self.new) (self.new ≡ self.old) }
+    {
+        let top = self.innermost();
+        if !top.rest.is_empty() {
+            return false;
+        }
+        let have = self.used();
+        let count = have - top.height;
+        if has_other(top.kind, count, top.arity) {
+            return false;
+        }
+        if self.around() == 0 {
+            return false;
+        }
+        self.leave_last(have, count);
+        true
     }
 
     /// Branches to the label of this number, where there is one.

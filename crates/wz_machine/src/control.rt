@@ -4,7 +4,7 @@ ghost use Rattle.std.specs.Prelude.{◌≡◌, ◌+◌, ◌-◌, ◌≤◌, ◌�
 ghost use Rattle.wz_code.specs.BodyParts.{block_at};
 ghost use Rattle.wz_code.specs.BlockRule.{IsBody};
 ghost use Rattle.wz_code.specs.Trees.{code_in, tree_of, arm_of};
-ghost use Rattle.wz_machine.specs.Advance.{BranchesHere, Repeats};
+ghost use Rattle.wz_machine.specs.Advance.{BranchesHere, StaysWithin};
 ghost use Rattle.wz_machine.specs.BlockSteps.{block_type};
 ghost use Rattle.wz_machine.specs.Turns.{TurnedAnywhere, TurnedByTypes, EntryTurned, NoNumber, HasNumber, own_of};
 ghost use Rattle.wz_machine.specs.Turns.{arm_chosen};
@@ -184,7 +184,7 @@ impl<'m> Stacks<'m> {
     /// takes no values along.
     #[inline(always)]
     pub fn repeats(&mut self) -> bool
-        ensures { MatchBool result (Repeats self.old self.new) (self.new ≡ self.old) }
+        ensures { MatchBool result (StaysWithin self.old self.new) (self.new ≡ self.old) }
     {
         match self.stays() {
             Some(have) => self.repeat(have),

@@ -1,12 +1,8 @@
-use Rattle.std.proofs.Common.{◌∙◌, ap, sym, length}
+use Rattle.std.proofs.Common.{◌∙◌, ap, sym}
 use Rattle.wz_code.specs.declared.instr.Instr.{Instr}
 use Rattle.wz_machine.specs.Straight.{changes_table}
-use Rattle.wz_machine.proofs.AtOnceLemmas.{spares_made, spares_ended}
+use Rattle.wz_machine.proofs.AtOnceLemmas.{spares_made}
 use Rattle.wz_machine.proofs.stacks.Stacks.at_once.Goals as goal
-
-pub returns-in_default-clause-spares : goal.returns-in_default-clause-spares
-returns-in_default-clause-spares g c =
-    spares_ended c.end_at_once.result c.args.self.now c.innermost-top.result.rest.now c.innermost-top.ensures.rest (ap length c.in_default.ensures)
 
 pub returns-in-If-clause-spares : goal.returns-in-If-clause-spares
 returns-in-If-clause-spares g c =
