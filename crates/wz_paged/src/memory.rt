@@ -47,7 +47,7 @@ fn index_of(pages: &[Page], at: u64, len: u64) -> Option<usize>
 }
 
 /// The number at a place, where it lies in one page that has been made.
-#[inline]
+#[inline(always)]
 fn load_inside(pages: &[Page], at: u64, width: u32) -> Option<u64>
     requires { IsAccessWidth width }
     ensures within { IfSome result (λ _. at + width ≤ length pages.now * 65536) }
@@ -141,7 +141,7 @@ fn load_across(pages: &[Page], at: u64, width: u32) -> Option<u64>
 }
 
 /// Writes a number at a place, where it lies in one page that has been made.
-#[inline]
+#[inline(always)]
 fn store_inside(pages: &mut [Page], at: u64, value: u64, width: u32) -> bool
     requires { IsAccessWidth width }
     ensures within { OnTrue result (at + width ≤ length pages.old * 65536) }
@@ -237,7 +237,7 @@ impl Linear for PagedMemory {
         add_absent(self.alloc, &mut self.pages, pages as usize)
     }
 
-    #[inline]
+    #[inline(always)]
     fn load(&self, at: u64, width: u32) -> Option<u64> {
         // Each exit says itself whether there is a number. Were that the answer of the call that is
         // out of line, the caller's own cases would test it again after every load.
@@ -250,7 +250,7 @@ impl Linear for PagedMemory {
         }
     }
 
-    #[inline]
+    #[inline(always)]
     fn store(&mut self, at: u64, value: u64, width: u32) -> Result<bool, AllocError> {
         if store_inside(&mut self.pages, at, value, width) {
             return Ok(true);

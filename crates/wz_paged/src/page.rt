@@ -148,7 +148,7 @@ impl Page {
     }
 
     /// The number that stands at a place, where the page has been made and it lies in it.
-    #[inline]
+    #[inline(always)]
     pub fn load(&self, at: usize, width: u32) -> Option<u64>
         requires width { IsAccessWidth width }
         requires within { at < 65536 }
@@ -166,7 +166,7 @@ impl Page {
     }
 
     /// Writes a number at a place, where the page has been made and it lies in it.
-    #[inline]
+    #[inline(always)]
     pub fn store(&mut self, at: usize, value: u64, width: u32) -> bool
         requires width { IsAccessWidth width }
         requires within { at < 65536 }
