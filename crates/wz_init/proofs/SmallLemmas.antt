@@ -8,7 +8,6 @@ use Rattle.std.proofs.lemmas.Option.{slice_get_within, get_or_from_slice_get}
 use Rattle.wz_types.specs.declared.types.ValType.{ValType}
 use Rattle.wz_types.specs.FunctionType.{FunctionType}
 use Rattle.wz_types.specs.Zeros.{zeros_of}
-use Rattle.wz_code.specs.Trees.{Code}
 use Rattle.wz_module.specs.declared.items.ImportKind.{ImportKind}
 use Rattle.wz_module.specs.declared.items.ImportKind.TheVariants as kind
 use Rattle.wz_module.specs.Imports.{Import}
@@ -17,12 +16,12 @@ use Rattle.wz_module.specs.Module.{Module}
 use Rattle.wz_valid_code.specs.Context.{locals_of_runs, function_type}
 use Rattle.wz_valid.specs.Indices.{function_import, imported_functions, all_functions}
 use Rattle.wz_valid.specs.Contexts.{context_of}
-use Rattle.wz_valid.specs.Profile.{IsInProfile, locals_limit, runs_length, own_locals, own_counts, local_counts, params_of}
+use Rattle.wz_valid.specs.Profile.{IsInProfile, locals_limit, runs_length, own_locals, own_counts, params_of}
 use Rattle.wz_store.specs.declared.function.Function.{Function}
 use Rattle.wz_store.specs.declared.function.Function.TheVariants as stored
 use Rattle.wz_machine.specs.State.{State, FunctionBody, OwnBody, ImportedBody, NoBody, FunctionInstance, callable_of, callable_from}
 use Rattle.wz_machine.specs.Terms.{Standing, Runs, Waits}
-use Rattle.wz_machine.specs.Entered.{entered, entered_callable}
+use Rattle.wz_machine.specs.Entered.{entered_callable}
 use Rattle.wz_init.specs.Functions.{import_function, import_functions, own_functions, stored_functions, body_of_tree, function_in, functions_in}
 use Rattle.wz_init.specs.Turns.{IsWithinLimits, FunctionsAreSmall}
 

@@ -14,7 +14,7 @@ use Rattle.wz_types.specs.declared.trap.TrapKind.TheVariants.{TableBounds, Memor
 use Rattle.wz_types.specs.declared.value.Reference.{Reference}
 use Rattle.wz_types.specs.declared.value.Reference.TheVariants.{Null}
 use Rattle.wz_types.specs.declared.value.Value.{Value}
-use Rattle.wz_types.specs.declared.value.Value.TheVariants.{I32, I64, F32, F64, Ref}
+use Rattle.wz_types.specs.declared.value.Value.TheVariants.{Ref}
 use Rattle.wz_types.specs.SameType.{same_kind}
 use Rattle.wz_types.specs.Fits.{Fits, type_of_kind}
 use Rattle.wz_types.proofs.SameTypeLemmas.{same_type-itself, same_kind-true}
@@ -43,7 +43,7 @@ use Rattle.wz_machine.specs.TypedSteps.{IsChangeTyped}
 use Rattle.wz_machine.specs.TypedLaws.{ChangeKeepsTyping}
 use Rattle.wz_machine.proofs.StuckParts.{every-part, every-same, bytes-part, part-short, each-same}
 use Rattle.wz_init.specs.Functions.{functions_in}
-use Rattle.wz_init.specs.Constants.{constant_value, constant_reference, constant_number, reference_in}
+use Rattle.wz_init.specs.Constants.{constant_value, constant_reference, constant_number}
 use Rattle.wz_init.specs.Allocation.{each_of, first_element}
 use Rattle.wz_init.specs.Instances.{Instance, ElementUnfit, DataUnfit, NoInstance, Fresh, instance_then}
 use Rattle.wz_init.specs.Instantiation.{copied, element_copied, element_run, elements_run, data_copied, data_run, datas_run, segments_run}

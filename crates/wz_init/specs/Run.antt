@@ -1,6 +1,6 @@
 -- The run of one function by steps of section 4.4 of the Core Specification, with fuel and limits, which are the tool's own. A tick is
 -- one step. The fuel that is left and the ticks that were made go along, so that the next run goes on with them.
-use Rattle.std.specs.Prelude.{ℕ, zero, suc, ◌+◌, nat_le, nat_lt, List, [], ◌∷◌, Option, Some, None, Bool, true, false, if◌then◌else◌, slice_get}
+use Rattle.std.specs.Prelude.{ℕ, zero, suc, ◌+◌, nat_le, nat_lt, [], ◌∷◌, Option, Some, None, Bool, if◌then◌else◌, slice_get}
 use Rattle.wz_types.specs.declared.trap.TrapKind.{TrapKind}
 use Rattle.wz_types.specs.declared.value.Value.{Value}
 use Rattle.wz_types.specs.declared.value.Value.TheVariants.{I32}

@@ -1,19 +1,18 @@
 -- Many steps, put together.
-use Rattle.std.proofs.Common.{◌≡◌, ◌≤◌, ◌<◌, ◌+◌, ◌-◌, ◌⊎◌, ℕ, zero, suc, List, [], ◌∷◌, Option, Some, MatchBool, Result, Ok, Err, OnErr, Bool, true, false, IsTrue, IsFalse, inl, inr, length, take, slice_get, get_or, set, refl, ap, sym, subst, ◌∙◌, arith}
+use Rattle.std.proofs.Common.{◌≡◌, ◌≤◌, ◌<◌, ◌+◌, ◌-◌, ◌⊎◌, ℕ, zero, suc, List, [], ◌∷◌, Option, Some, MatchBool, Result, Ok, Err, OnErr, Bool, true, false, inl, inr, length, take, slice_get, get_or, set, refl, ap, sym, subst, ◌∙◌, arith}
 use Rattle.std.proofs.lemmas.List.{nil_from_length}
 use Rattle.wz_code.specs.declared.instr.Instr.{Instr}
 use Rattle.wz_code.specs.declared.instr.Instr.TheVariants.{Block, Loop, If, Br, BrIf}
 use Rattle.wz_code.specs.BodyParts.{BodyParts}
-use Rattle.wz_code.specs.Trees.{Code, leaf_in, code_in, headed_in}
+use Rattle.wz_code.specs.Trees.{Code, code_in, headed_in}
 use Rattle.wz_store.specs.Made.{StoreState}
-use Rattle.wz_store.specs.Changes.{Change, Nothing, applied}
+use Rattle.wz_store.specs.Changes.{Nothing}
 use Rattle.wz_machine.specs.State.{State, state_of}
 use Rattle.wz_machine.specs.Terms.{Term, Standing}
 use Rattle.wz_machine.specs.Standings.{StandingParts, standing_of, stack_of}
-use Rattle.wz_machine.specs.Outcomes.{Answer, Next}
+use Rattle.wz_machine.specs.Outcomes.{Answer}
 use Rattle.wz_machine.specs.Step.{step}
 use Rattle.wz_machine.specs.Next.{Head, head_of, next}
-use Rattle.wz_machine.specs.Frames.{frame_count, local_count}
 use Rattle.wz_machine.specs.Stacks.{CallEntry, LoopEntry, Entry, StackParts, stacks_term, IsStacked}
 use Rattle.wz_machine.specs.Straight.{changes_table}
 use Rattle.wz_machine.specs.Strides.{Gone}

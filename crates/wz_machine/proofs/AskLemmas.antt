@@ -6,17 +6,17 @@ use Rattle.wz_types.specs.declared.value.Value.{Value}
 use Rattle.wz_types.specs.declared.trap.TrapKind.{TrapKind}
 use Rattle.wz_types.specs.FunctionType.{FunctionType}
 use Rattle.wz_code.specs.declared.instr.Instr.{Instr}
-use Rattle.wz_code.specs.BodyParts.{BodyParts, block_at}
+use Rattle.wz_code.specs.BodyParts.{BodyParts}
 use Rattle.wz_code.specs.BlockRule.{IsBody}
-use Rattle.wz_code.specs.Trees.{Code, Then, Leaf, leaf_in, headed_in, code_in, tree_of}
+use Rattle.wz_code.specs.Trees.{Code, Then, leaf_in, headed_in, code_in, tree_of}
 use Rattle.wz_store.specs.Changes.{Nothing}
 use Rattle.wz_code.specs.declared.instr.Instr.TheVariants.{Call}
 use Rattle.wz_valid_code.specs.Context.{locals_of_runs}
 use Rattle.wz_machine.specs.declared.questions.HostTarget.{HostTarget}
 use Rattle.wz_machine.specs.declared.questions.HostTarget.TheVariants as target
 use Rattle.wz_machine.specs.State.{State, FunctionBody, OwnBody, ImportedBody, Callable, callable_at}
-use Rattle.wz_machine.specs.Terms.{Innermost, Term, Question, AskHost}
-use Rattle.wz_machine.specs.Outcomes.{Yields, Poses, Fails, HasNoRule, Outcome, Does, Calls, Answer, Next, Trap, Ask, Stuck}
+use Rattle.wz_machine.specs.Terms.{Term, Question, AskHost}
+use Rattle.wz_machine.specs.Outcomes.{Yields, Poses, Fails, HasNoRule, Outcome, Does, Calls, Next, Trap, Ask, Stuck}
 use Rattle.wz_machine.specs.InstrSteps.{leaf_step}
 use Rattle.wz_machine.specs.CallSteps.{with_arguments, invocation, call_step}
 use Rattle.wz_machine.specs.Step.{code_reduct, outcome_reduct, step}

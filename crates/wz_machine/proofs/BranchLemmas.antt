@@ -1,5 +1,5 @@
 -- What the machine does at a branch and at an end is where these lead.
-use Rattle.std.proofs.Common.{◌≡◌, ◌≤◌, ◌<◌, ℕ, zero, suc, ◌+◌, ◌-◌, nat_le, ◌==◌, List, [], ◌∷◌, ◌++◌, Option, Some, None, if◌then◌else◌, length, take, drop, reverse, slice_get, get_or, drop-cons, refl, ap, sym, subst, ◌∙◌, ◌⊎◌, inl, inr, arith}
+use Rattle.std.proofs.Common.{◌≡◌, ◌≤◌, ◌<◌, ℕ, zero, suc, ◌+◌, ◌-◌, nat_le, List, [], ◌∷◌, ◌++◌, Some, if◌then◌else◌, length, take, drop, reverse, slice_get, get_or, drop-cons, refl, ap, sym, ◌∙◌, ◌⊎◌, inl, inr, arith}
 use Rattle.std.proofs.lemmas.Bool.Decides.{nat_tests}
 use Rattle.std.proofs.lemmas.List.{length-take-le, length-drop, length-reverse}
 use Rattle.std.proofs.lemmas.Option.{slice_get-get_or}
@@ -8,8 +8,8 @@ use Rattle.wz_code.specs.declared.instr.Instr.{Instr}
 use Rattle.wz_store.specs.Changes.{Nothing, range_of}
 use Rattle.wz_machine.specs.Outcomes.{Answer, Next, Done, Stuck}
 use Rattle.wz_machine.specs.Step.{results_answer}
-use Rattle.wz_machine.specs.Stacks.{EntryKind, CallEntry, BlockEntry, LoopEntry, Entry, StackParts, stacks_term, HasRoom, IsBlockIn, IsKindIn, AreStacked, IsStacked}
-use Rattle.wz_machine.specs.Landing.{arrived, landing, ending_in, ending, IsLeft, IsAgain}
+use Rattle.wz_machine.specs.Stacks.{EntryKind, CallEntry, BlockEntry, LoopEntry, Entry, StackParts, stacks_term, IsKindIn, AreStacked}
+use Rattle.wz_machine.specs.Landing.{arrived, landing, IsLeft, IsAgain}
 use Rattle.wz_machine.specs.Turns.{own_of}
 use Rattle.wz_machine.proofs.ListLemmas.{last-own}
 use Rattle.wz_machine.proofs.KeptLemmas.{parts-same}

@@ -1,6 +1,6 @@
 -- A call on the machine's stacks: what is kept.
-use Rattle.std.proofs.Common.{◌≡◌, ◌≤◌, ◌<◌, ℕ, suc, ◌+◌, ◌-◌, ◌^◌, List, [], ◌∷◌, ◌++◌, length, take, drop, refl, ap, sym, ◌∙◌, arith, add-one}
-use Rattle.std.proofs.lemmas.List.{length-append, length-take-le, take-take, drop-take, take-append-le, drop-append-le, take_at, drop_at}
+use Rattle.std.proofs.Common.{◌≡◌, ◌≤◌, ◌<◌, ℕ, suc, ◌+◌, ◌-◌, ◌^◌, List, ◌++◌, length, take, drop, refl, ap, sym, ◌∙◌, arith}
+use Rattle.std.proofs.lemmas.List.{length-append, length-take-le, take-take, drop-take, drop_at}
 use Rattle.wz_types.specs.declared.value.Value.{Value}
 use Rattle.wz_code.specs.declared.instr.Instr.{Instr}
 use Rattle.wz_code.specs.BodyParts.{BodyParts, block_at}

@@ -1,5 +1,5 @@
 -- What the control instructions come to on the machine's stacks.
-use Rattle.std.proofs.Common.{◌≡◌, ◌≤◌, ℕ, zero, suc, ◌+◌, ◌-◌, List, [], ◌∷◌, Option, Some, None, length, take, drop, reverse, slice_get, unwrap_or, take_all, refl, ap, sym, ◌∙◌, arith}
+use Rattle.std.proofs.Common.{◌≡◌, ◌≤◌, ℕ, zero, suc, ◌-◌, List, [], ◌∷◌, Option, Some, None, length, take, drop, reverse, slice_get, unwrap_or, take_all, refl, ap, sym, ◌∙◌, arith}
 use Rattle.std.proofs.lemmas.List.{take-take}
 use Rattle.wz_types.specs.declared.value.Value.{Value}
 use Rattle.wz_types.specs.declared.value.Value.TheVariants.{I32, I64, F32, F64, Ref}
@@ -7,19 +7,19 @@ use Rattle.wz_types.specs.FunctionType.{FunctionType}
 use Rattle.wz_code.specs.declared.instr.Instr.{Instr}
 use Rattle.wz_code.specs.declared.instr.Instr.TheVariants.{Block, Loop, If, Br, BrIf, BrTable, Return}
 use Rattle.wz_code.specs.declared.instr.Shape.{Shape}
-use Rattle.wz_code.specs.BodyParts.{BodyParts, block_at}
+use Rattle.wz_code.specs.BodyParts.{block_at}
 use Rattle.wz_code.specs.BlockRule.{IsBody}
 use Rattle.wz_code.specs.Trees.{Code, Leaf, Plain, Then, code_in, tree_of, arm_of, headed_in}
 use Rattle.wz_store.specs.Changes.{Change, Nothing}
 use Rattle.wz_machine.specs.State.{State}
-use Rattle.wz_machine.specs.Outcomes.{Yields, HasNoRule, Outcome, Does, Jumps, Reduct, Branches, Returns, Sticks, Next, Stuck}
+use Rattle.wz_machine.specs.Outcomes.{Yields, HasNoRule, Outcome, Does, Jumps, Branches, Returns, Sticks, Next, Stuck}
 use Rattle.wz_machine.specs.ControlSteps.{br_if_step, listed_jump, br_table_step}
 use Rattle.wz_machine.specs.InstrSteps.{leaf_step}
 use Rattle.wz_machine.specs.BlockSteps.{block_type, block_entry, if_entry}
 use Rattle.wz_machine.specs.Step.{outcome_reduct, code_reduct, step}
 use Rattle.wz_machine.specs.Contexts.{content_reduct}
 use Rattle.wz_machine.specs.Flat.{content_of, own_values, locals_in, HasPlaces}
-use Rattle.wz_machine.specs.Stacks.{Entry, StackParts, opened_of, flat_of, stacks_term, HasRoom, IsStacked}
+use Rattle.wz_machine.specs.Stacks.{StackParts, opened_of, flat_of, stacks_term, IsStacked}
 use Rattle.wz_machine.specs.Opening.{stepped}
 use Rattle.wz_machine.specs.Turns.{own_of, arm_chosen, NoNumber, HasNumber}
 use Rattle.wz_machine.proofs.FlatLemmas.{plain_step}

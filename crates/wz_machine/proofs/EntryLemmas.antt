@@ -1,20 +1,20 @@
 -- A block is entered: what the machine's stacks are then is what the step comes to.
-use Rattle.std.proofs.Common.{◌≡◌, ◌≤◌, ◌<◌, ℕ, ◌+◌, ◌-◌, nat_le, List, [], ◌∷◌, ◌++◌, Option, Some, None, option_map, Bool, true, false, if◌then◌else◌, length, take, drop, reverse, take_all, refl, ap, sym, subst, ◌∙◌, arith}
-use Rattle.std.proofs.lemmas.List.{drop-take, take-take, length-take-le, length-drop, length-reverse}
+use Rattle.std.proofs.Common.{◌≡◌, ◌≤◌, ◌<◌, ℕ, ◌+◌, ◌-◌, nat_le, List, Option, Some, None, option_map, Bool, true, false, if◌then◌else◌, length, take, drop, reverse, refl, ap, sym, subst, ◌∙◌, arith}
+use Rattle.std.proofs.lemmas.List.{drop-take, take-take, length-take-le}
 use Rattle.std.proofs.lemmas.Bool.Decides.{nat_tests}
 use Rattle.wz_types.specs.declared.value.Value.{Value}
 use Rattle.wz_types.specs.FunctionType.{FunctionType}
 use Rattle.wz_code.specs.declared.instr.Instr.{Instr}
 use Rattle.wz_code.specs.declared.instr.Shape.{Shape}
 use Rattle.wz_code.specs.Trees.{Code, code_in}
-use Rattle.wz_store.specs.Changes.{Nothing, range_of}
+use Rattle.wz_store.specs.Changes.{Nothing}
 use Rattle.wz_machine.specs.State.{State}
-use Rattle.wz_machine.specs.Terms.{Inside, Innermost, InLabel}
+use Rattle.wz_machine.specs.Terms.{Innermost, InLabel}
 use Rattle.wz_machine.specs.Outcomes.{Reduct, Goes, Sticks, Next, Stuck}
 use Rattle.wz_machine.specs.BlockSteps.{block_type, block_entry, label_types}
 use Rattle.wz_machine.specs.Step.{step}
 use Rattle.wz_machine.specs.Contexts.{Layer, LabelLayer, in_layer, code_content, content_reduct}
-use Rattle.wz_machine.specs.Flat.{Opened, FlatStacks, content_of, layers_in, results_of, own_values, locals_in, layer_of, opened_content}
+use Rattle.wz_machine.specs.Flat.{Opened, content_of, layers_in, results_of, own_values, locals_in, layer_of, opened_content}
 use Rattle.wz_machine.specs.Stacks.{EntryKind, BlockEntry, LoopEntry, Entry, StackParts, open_kind, opened_of, flat_of, stacks_term, HasRoom, IsStacked}
 use Rattle.wz_machine.specs.Opening.{block_in, with_block_opened}
 use Rattle.wz_machine.specs.Turns.{own_of, again_of}

@@ -1,5 +1,5 @@
 -- Growth and float operations that ask, on the machine's stacks.
-use Rattle.std.proofs.Common.{◌≡◌, ◌≤◌, ◌<◌, ℕ, ◌+◌, ◌-◌, List, [], ◌∷◌, ◌++◌, Option, Some, None, Bool, true, false, if◌then◌else◌, length, take, drop, reverse, slice_get, refl, ap, sym, ◌∙◌, arith}
+use Rattle.std.proofs.Common.{◌≡◌, ◌≤◌, ℕ, ◌+◌, ◌-◌, List, [], ◌∷◌, ◌++◌, Option, Some, None, Bool, true, false, if◌then◌else◌, length, take, drop, reverse, slice_get, refl, ap, sym, ◌∙◌, arith}
 use Rattle.std.proofs.lemmas.List.{length-take-le, length-drop, length-reverse, reverse-append, take-take, take-append-le, drop-append-le, take_all}
 use Rattle.wz_types.specs.declared.value.Value.{Value}
 use Rattle.wz_types.specs.declared.value.Value.TheVariants.{I32, I64, F32, F64, Ref}
@@ -9,18 +9,16 @@ use Rattle.wz_types.specs.SameType.{same_kind}
 use Rattle.wz_code.specs.declared.instr.Instr.{Instr}
 use Rattle.wz_code.specs.declared.instr.Instr.TheVariants.{MemoryGrow, TableGrow, Num}
 use Rattle.wz_code.specs.declared.numeric.NumOp.{NumOp}
-use Rattle.wz_code.specs.Numeric.{types_of}
 use Rattle.wz_code.specs.Trees.{code_in}
 use Rattle.wz_store.specs.State.{Memory, Table, pages_of}
 use Rattle.wz_store.specs.Growth.{may_grow, may_extend}
 use Rattle.wz_store.specs.Changes.{Nothing}
 use Rattle.wz_machine.specs.State.{State}
-use Rattle.wz_machine.specs.Terms.{AskFloat, AskMemory, AskTable}
-use Rattle.wz_machine.specs.Outcomes.{Effect, Yields, Poses, HasNoRule, Outcome, Does, Next, Stuck}
+use Rattle.wz_machine.specs.Terms.{AskMemory, AskTable}
+use Rattle.wz_machine.specs.Outcomes.{Effect, Yields, Poses, HasNoRule, Does, Next, Stuck}
 use Rattle.wz_machine.specs.BulkSteps.{minus_one}
-use Rattle.wz_machine.specs.NumericSteps.{operation_step}
-use Rattle.wz_machine.specs.MemorySteps.{memory_grow_step, memory_growth}
-use Rattle.wz_machine.specs.TableSteps.{table_grow_step, table_growth}
+use Rattle.wz_machine.specs.MemorySteps.{memory_grow_step}
+use Rattle.wz_machine.specs.TableSteps.{table_grow_step}
 use Rattle.wz_machine.specs.Step.{outcome_reduct, step}
 use Rattle.wz_machine.specs.Flat.{locals_in}
 use Rattle.wz_machine.specs.Stacks.{StackParts, opened_of, stacks_term, IsStacked, last_values, first_values}

@@ -1,5 +1,5 @@
 -- The fields of the machine's stacks are kept as they should be.
-use Rattle.std.proofs.Common.{◌≡◌, ◌≤◌, ◌<◌, ℕ, zero, suc, ◌+◌, ◌-◌, ◌^◌, List, [], ◌∷◌, ◌++◌, length, take, drop, get_or, slice_get, Option, Some, reverse, map, refl, ap, sym, subst, ◌∙◌, arith}
+use Rattle.std.proofs.Common.{◌≡◌, ◌≤◌, ◌<◌, ℕ, zero, suc, ◌+◌, ◌-◌, ◌^◌, List, [], ◌∷◌, ◌++◌, length, take, drop, get_or, slice_get, Some, reverse, map, refl, ap, sym, subst, ◌∙◌, arith}
 use Rattle.std.proofs.lemmas.List.{drop-take, take-take, take-map, length-take-le, length-map, length-append, length-reverse, map-append, reverse-append, get_or-map, get_or-reverse}
 use Rattle.std.proofs.lemmas.Option.{slice_get-get_or}
 use Rattle.wz_store.specs.Changes.{range_of}
@@ -7,7 +7,7 @@ use Rattle.wz_types.specs.declared.value.Value.{Value}
 use Rattle.wz_code.specs.declared.instr.Instr.{Instr}
 use Rattle.wz_machine.specs.declared.stacks.Opened.{Opened}
 use Rattle.wz_machine.specs.declared.stacks.Stacks.TheInside.{Inside}
-use Rattle.wz_machine.specs.Stacks.{EntryKind, CallEntry, BlockEntry, LoopEntry, Entry, StackParts, HasRoom, IsBlockIn, IsCallIn, IsKindIn, IsOutermost, AreStacked, IsStacked}
+use Rattle.wz_machine.specs.Stacks.{EntryKind, CallEntry, BlockEntry, LoopEntry, Entry, StackParts, HasRoom, IsBlockIn, IsKindIn, AreStacked, IsStacked}
 use Rattle.wz_machine.specs.Kept.{entry_of, stack_parts, AreKept}
 use Rattle.wz_machine.specs.Opening.{IsBlockKind, block_in, with_block_opened, stepped}
 use Rattle.wz_machine.specs.Landing.{IsLeft, IsAgain}

@@ -1,8 +1,7 @@
 -- Ends of lists, forwards and backwards.
-use Rattle.std.proofs.Common.{◌≡◌, ◌≤◌, ◌<◌, ℕ, zero, suc, ◌+◌, ◌-◌, List, [], ◌∷◌, ◌++◌, Option, Some, length, take, drop, reverse, map, get_or, refl, ap, sym, ◌∙◌, arith}
-use Rattle.std.proofs.lemmas.List.{drop-take, take-take, take-append-drop, length-take-le, length-drop, length-reverse, reverse-append, reverse-reverse, drop-drop}
+use Rattle.std.proofs.Common.{◌≡◌, ◌≤◌, ℕ, ◌+◌, ◌-◌, List, ◌++◌, length, take, drop, reverse, ap, sym, ◌∙◌, arith}
+use Rattle.std.proofs.lemmas.List.{drop-take, take-append-drop, length-take-le, length-drop, length-reverse, reverse-append, reverse-reverse, drop-drop}
 use Rattle.std.proofs.Math.Seq.{take-append_seam, drop-append_seam}
-use Rattle.wz_types.specs.declared.value.Value.{Value}
 
 -- the two parts of a list, backwards
 backwards : {A : Type 0} (n : ℕ) (xs : List A) → reverse xs ≡ reverse (drop n xs) ++ reverse (take n xs)

@@ -1,14 +1,12 @@
 -- The first instruction of what is left of the innermost block is the one that a step reduces.
-use Rattle.std.proofs.Common.{◌≡◌, List, [], ◌∷◌, Option, Some, None, ap, sym, refl, ◌∙◌}
+use Rattle.std.proofs.Common.{◌≡◌, List, [], ◌∷◌, Some, None, ap, refl, ◌∙◌}
 use Rattle.wz_code.specs.declared.instr.Instr.{Instr}
 use Rattle.wz_code.specs.declared.instr.Instr.TheVariants.{Block, Loop, If}
 use Rattle.wz_code.specs.BodyParts.{BodyParts}
 use Rattle.wz_code.specs.Trees.{Code, End, code_in, headed_in}
-use Rattle.wz_machine.specs.Next.{Head, head_of, next}
-use Rattle.wz_machine.specs.Terms.{Standing}
+use Rattle.wz_machine.specs.Next.{head_of, next}
 use Rattle.wz_machine.specs.Stacks.{StackParts, stacks_term}
-use Rattle.wz_machine.specs.Standings.{StandingParts, standing_of, stack_of}
-use Rattle.wz_machine.specs.Peeks.{Shows, stack_next}
+use Rattle.wz_machine.specs.Peeks.{Shows}
 use Rattle.wz_machine.proofs.SiteLemmas.{next-head}
 
 -- what follows is no part of it

@@ -1,5 +1,5 @@
 -- The machine's stacks after a run of plain instructions, by their fields.
-use Rattle.std.proofs.Common.{◌≡◌, ◌≤◌, ◌+◌, ◌-◌, ℕ, List, [], ◌++◌, map, reverse, take, drop, length, refl, ap, sym, subst, ◌∙◌, arith}
+use Rattle.std.proofs.Common.{◌≡◌, ◌≤◌, ◌+◌, ◌-◌, ℕ, List, ◌++◌, map, reverse, take, drop, length, ap, sym, subst, ◌∙◌, arith}
 use Rattle.std.proofs.lemmas.List.{length-take-le, length-drop, take_all, append-nil}
 use Rattle.std.proofs.Math.ListN.{drop_of_length-le}
 use Rattle.wz_types.specs.declared.value.Value.{Value}
@@ -7,14 +7,11 @@ use Rattle.wz_code.specs.declared.instr.Instr.{Instr}
 use Rattle.wz_code.specs.BodyParts.{BodyParts}
 use Rattle.wz_store.specs.declared.function.Function.{Function}
 use Rattle.wz_store.specs.State.{StateOf}
-use Rattle.wz_machine.specs.declared.stacks.Opened.{Opened}
 use Rattle.wz_machine.specs.declared.stacks.Stacks.TheInside.{Inside}
-use Rattle.wz_machine.specs.State.{state_of}
-use Rattle.wz_machine.specs.Stacks.{Entry, StackParts, stacks_term, IsStacked}
-use Rattle.wz_machine.specs.Kept.{entry_of, stack_parts, AreKept}
+use Rattle.wz_machine.specs.Stacks.{StackParts, IsStacked}
+use Rattle.wz_machine.specs.Kept.{entry_of}
 use Rattle.wz_machine.specs.Straight.{point, RunsTo}
 use Rattle.wz_machine.specs.Running.{site_of, SameApart}
-use Rattle.wz_machine.specs.Advance.{Reaches}
 use Rattle.wz_machine.proofs.KeptLemmas.{parts_in}
 use Rattle.wz_machine.proofs.SiteLemmas.{places_of, HasRun, run_lands}
 

@@ -1,27 +1,25 @@
 -- A plain instruction at the split of the machine's values (below the locals, locals, between, own) is a step of the term.
-use Rattle.std.proofs.Common.{◌≡◌, ◌≤◌, ◌<◌, ◌+◌, ◌-◌, ◌^◌, ℕ, zero, suc, List, [], ◌∷◌, ◌++◌, Option, Some, None, Bool, true, false, IsFalse, map, take, drop, reverse, length, slice_set, append_assoc, refl, ap, sym, subst, ◌∙◌, arith}
+use Rattle.std.proofs.Common.{◌≡◌, ◌≤◌, ◌+◌, ◌-◌, ◌^◌, ℕ, zero, suc, List, [], ◌∷◌, ◌++◌, Option, Some, IsFalse, map, take, drop, reverse, length, slice_set, append_assoc, refl, ap, sym, subst, ◌∙◌, arith}
 use Rattle.std.proofs.Math.Seq.{take-add}
 use Rattle.std.proofs.lemmas.List.{length-append, length-set, length-drop, length-take-le, take_at, drop_at, take-take, drop-take, drop-drop, set-append_left, set-append_right}
 use Rattle.wz_types.specs.declared.value.Value.{Value}
 use Rattle.wz_code.specs.declared.instr.Instr.{Instr}
 use Rattle.wz_code.specs.declared.instr.Instr.TheVariants.{BrTable, SelectTyped}
 use Rattle.wz_code.specs.BodyParts.{BodyParts}
-use Rattle.wz_code.specs.Trees.{Code, Then, Leaf, leaf_in, code_in}
+use Rattle.wz_code.specs.Trees.{Code, Then, leaf_in, code_in}
 use Rattle.wz_store.specs.declared.function.Function.{Function}
 use Rattle.wz_store.specs.State.{StateOf}
 use Rattle.wz_store.specs.Changes.{Change, Nothing, applied, range_of}
-use Rattle.wz_machine.specs.State.{State, state_of}
-use Rattle.wz_machine.specs.Terms.{Inside, InLabel, InFrame, Term}
-use Rattle.wz_machine.specs.Outcomes.{Outcome, Yields, Does, SetsLocals, Next}
+use Rattle.wz_machine.specs.State.{state_of}
+use Rattle.wz_machine.specs.Outcomes.{Yields, Does, SetsLocals, Next}
 use Rattle.wz_machine.specs.InstrSteps.{leaf_step}
 use Rattle.wz_machine.specs.Step.{step}
 use Rattle.wz_machine.specs.Next.{Head, LeafHead, head_of, head_in, next}
-use Rattle.wz_machine.specs.Frames.{frame_count, local_count}
 use Rattle.wz_machine.specs.Contexts.{FrameContent, Layer, LabelLayer, FrameLayer, in_layer, term_in}
-use Rattle.wz_machine.specs.Flat.{Opened, FlatStacks, OpenKind, OpenFunction, OpenBlock, OpenLoop, locals_in, own_values, flat_term, content_of, layers_in, results_of, HasPlaces, HasLocals, IsNested}
+use Rattle.wz_machine.specs.Flat.{FlatStacks, locals_in, own_values, content_of, layers_in, results_of, HasPlaces, HasLocals, IsNested}
 use Rattle.wz_machine.specs.Stacks.{EntryKind, CallEntry, BlockEntry, LoopEntry, Entry, StackParts, open_kind, opened_of, flat_of, stacks_term, HasRoom, IsKindIn, AreStacked, IsStacked}
 use Rattle.wz_machine.specs.declared.plain.Plain.TheVariants.{Went}
-use Rattle.wz_machine.specs.PlainSteps.{used, Site, site, step_at, HoldsNone, WentOn, Yielded, SetLocal, SetsOneLocal, PlainReply}
+use Rattle.wz_machine.specs.PlainSteps.{used, step_at, HoldsNone, WentOn, Yielded, SetLocal, PlainReply}
 use Rattle.wz_machine.specs.Straight.{changes_table, Point, point, GoesOn, RunsTo}
 use Rattle.wz_machine.specs.declared.run.Places.{Places}
 use Rattle.wz_machine.specs.Running.{site_of, AreInOrder, SameApart}

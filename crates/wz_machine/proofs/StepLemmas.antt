@@ -1,18 +1,17 @@
 -- A step of the machine's stacks, by what their innermost code comes to.
-use Rattle.std.proofs.Common.{◌≡◌, ◌≤◌, ◌<◌, ℕ, zero, suc, ◌+◌, ◌-◌, nat_le, ◌==◌, List, [], ◌∷◌, ◌++◌, Option, Some, None, if◌then◌else◌, length, take, drop, reverse, slice_get, take_all, refl, ap, sym, subst, ◌∙◌, ◌⊎◌, inl, inr, arith}
-use Rattle.std.proofs.lemmas.List.{length-drop, reverse-reverse}
+use Rattle.std.proofs.Common.{◌≡◌, ◌≤◌, ◌<◌, ℕ, ◌-◌, ◌==◌, List, [], ◌∷◌, ◌++◌, Some, if◌then◌else◌, length, take, drop, slice_get, take_all, refl, ap, sym, subst, ◌∙◌, arith}
+use Rattle.std.proofs.lemmas.List.{length-drop}
 use Rattle.std.proofs.lemmas.Bool.Decides.{nat_tests}
-use Rattle.wz_types.specs.declared.trap.TrapKind.{TrapKind}
 use Rattle.wz_types.specs.declared.value.Value.{Value}
 use Rattle.wz_code.specs.declared.instr.Instr.{Instr}
-use Rattle.wz_code.specs.Trees.{Code, End, code_in}
+use Rattle.wz_code.specs.Trees.{code_in}
 use Rattle.wz_store.specs.Changes.{Nothing, range_of}
 use Rattle.wz_machine.specs.State.{State}
-use Rattle.wz_machine.specs.Outcomes.{Reduct, Finishes, Branches, Returns, Traps, Sticks, Answer, Next, Done, Trap, Stuck}
+use Rattle.wz_machine.specs.Outcomes.{Finishes, Branches, Returns, Answer, Next, Done, Stuck}
 use Rattle.wz_machine.specs.Step.{code_reduct, step}
 use Rattle.wz_machine.specs.Contexts.{content_reduct}
 use Rattle.wz_machine.specs.Flat.{content_of, layers_in, results_of, own_values, locals_in}
-use Rattle.wz_machine.specs.Stacks.{EntryKind, CallEntry, BlockEntry, LoopEntry, Entry, StackParts, opened_of, flat_of, stacks_term, HasRoom, IsOutermost, AreStacked, IsStacked}
+use Rattle.wz_machine.specs.Stacks.{EntryKind, CallEntry, BlockEntry, LoopEntry, Entry, StackParts, opened_of, flat_of, stacks_term, AreStacked, IsStacked}
 use Rattle.wz_machine.specs.Landing.{landing, ending_in, ending, IsLeft}
 use Rattle.wz_machine.specs.Turns.{own_of}
 use Rattle.wz_machine.proofs.ContextLemmas.{step_within}

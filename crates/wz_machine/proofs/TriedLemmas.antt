@@ -1,7 +1,6 @@
 -- From what became of an instruction that is tried to what is said of it, and of a run that tries one.
-use Rattle.std.proofs.Common.{◌≡◌, ◌⊎◌, ◌≤◌, ◌+◌, ◌-◌, ℕ, zero, suc, List, [], ◌∷◌, Bool, true, false, Result, Ok, Err, IfOk, OnErr, IsTrue, IsFalse, refl, ap, sym, subst, ◌∙◌, arith}
+use Rattle.std.proofs.Common.{◌≡◌, ℕ, List, [], Bool, true, false, refl, ap, sym, subst, arith}
 use Rattle.wz_types.specs.declared.value.Value.{Value}
-use Rattle.wz_types.specs.declared.value.Value.TheVariants.{I32}
 use Rattle.wz_code.specs.declared.numeric.NumOp.{NumOp}
 use Rattle.wz_code.specs.declared.instr.Instr.{Instr}
 use Rattle.wz_code.specs.declared.instr.Instr.TheVariants.{Block, Loop, If, Br, BrIf, BrTable, Return, Call, CallIndirect, TableGrow, MemoryGrow, Num}
@@ -11,13 +10,11 @@ use Rattle.wz_store.specs.State.{StateOf}
 use Rattle.wz_store.specs.Changes.{Nothing}
 use Rattle.wz_machine.specs.declared.plain.Plain.{Plain}
 use Rattle.wz_machine.specs.declared.plain.Plain.TheVariants.{Went, Trapped, NoRule, Special}
-use Rattle.wz_machine.specs.Outcomes.{Does, Yields}
 use Rattle.wz_machine.specs.ControlSteps.{br_if_step}
 use Rattle.wz_machine.specs.Stacks.{StackParts}
-use Rattle.wz_machine.specs.PlainSteps.{used, site, Site, NumberReply, Yielded, IsSpecial, PlainReply}
+use Rattle.wz_machine.specs.PlainSteps.{site, Site, NumberReply, Yielded, IsSpecial, PlainReply}
 use Rattle.wz_machine.specs.PlainTurns.{IsSpecialTurn}
 use Rattle.wz_machine.specs.Tried.{HasGone, NumberTried, ZeroTaken, PlainTried, is_control}
-use Rattle.wz_machine.specs.Straight.{RunsTo, point}
 use Rattle.wz_machine.proofs.StraightLemmas.{IsRunning}
 use Rattle.wz_machine.proofs.ReplyLemmas.{of_number}
 

@@ -1,5 +1,5 @@
 -- One plain instruction at the split of the machine's values, as what is said of its step.
-use Rattle.std.proofs.Common.{◌≡◌, ◌≤◌, ◌<◌, ◌+◌, ◌-◌, ℕ, List, [], ◌∷◌, ◌++◌, Option, Some, None, Result, Ok, Err, OnErr, take, drop, reverse, length, refl, ap, sym, subst, ◌∙◌, arith}
+use Rattle.std.proofs.Common.{◌≡◌, ◌≤◌, ◌<◌, ◌+◌, ◌-◌, ℕ, List, ◌∷◌, ◌++◌, Option, Some, None, Result, Ok, Err, OnErr, take, drop, reverse, length, refl, ap, sym, subst, ◌∙◌, arith}
 use Rattle.std.proofs.lemmas.List.{length-take-le, take-take, drop-take, drop-drop}
 use Rattle.wz_types.specs.declared.types.ValType.{ValType}
 use Rattle.wz_types.specs.declared.trap.TrapKind.{TrapKind}
@@ -16,18 +16,17 @@ use Rattle.wz_store.specs.Changes.{range_of}
 use Rattle.wz_machine.specs.declared.plain.Plain.{Plain}
 use Rattle.wz_machine.specs.declared.plain.Plain.TheVariants.{Went, Trapped, NoRule, Special}
 use Rattle.wz_machine.specs.declared.run.Places.{Places}
-use Rattle.wz_machine.specs.State.{State, state_of}
+use Rattle.wz_machine.specs.State.{state_of}
 use Rattle.wz_machine.specs.Terms.{AskFloat}
 use Rattle.wz_machine.specs.Outcomes.{Poses, Does, Fails, HasNoRule, Traps, Trap}
 use Rattle.wz_machine.specs.Outcomes as outcome
 use Rattle.wz_machine.specs.NumericSteps.{operation_step}
 use Rattle.wz_machine.specs.InstrSteps.{leaf_step}
 use Rattle.wz_machine.specs.Step.{step}
-use Rattle.wz_machine.specs.Contexts.{content_reduct}
 use Rattle.wz_machine.specs.Flat.{content_of, layers_in, results_of, locals_in, own_values}
-use Rattle.wz_machine.specs.Stacks.{Entry, StackParts, opened_of, flat_of, stacks_term, IsStacked, last_values, first_values}
+use Rattle.wz_machine.specs.Stacks.{StackParts, opened_of, flat_of, stacks_term, IsStacked, last_values, first_values}
 use Rattle.wz_machine.specs.Asks.{AsksFloat}
-use Rattle.wz_machine.specs.PlainSteps.{used, Site, site, step_at, HoldsNone, IsSpecial, IsAsked, operand_count, count_of, PlainReply}
+use Rattle.wz_machine.specs.PlainSteps.{used, Site, step_at, HoldsNone, IsSpecial, IsAsked, operand_count, count_of, PlainReply}
 use Rattle.wz_machine.specs.Running.{site_of, AreInOrder, SameApart}
 use Rattle.wz_machine.specs.declared.stacks.Stacks.TheInside.{Inside}
 use Rattle.wz_machine.specs.Kept.{entry_of, stack_parts}

@@ -70,7 +70,10 @@ fn access_by<M: Linear>(
 
 /// An arm for each of these accesses, so that each is known where it is worked out.
 macro_rules! each {
-    ($op:ident $offset:ident $memory:ident $own:ident $have:ident $store:ident: $($name:ident)*) => {
+    (
+        $op:ident $offset:ident $memory:ident $own:ident $have:ident $store:ident:
+        $($name:ident)*
+    ) => {
         match $op {
             $(MemOp::$name => access_by(MemOp::$name, $offset, $memory, $own, $have, $store),)*
             _ => access_by($op, $offset, $memory, $own, $have, $store),

@@ -1,4 +1,4 @@
-use Rattle.std.proofs.Common.{◌≡◌, ◌∙◌, sym, ap, subst}
+use Rattle.std.proofs.Common.{◌∙◌, sym, ap, subst}
 use Rattle.wz_module.specs.Meaning.{module_of}
 use Rattle.wz_machine.specs.State.{State}
 use Rattle.wz_machine.specs.Machines.{machine_state, machine_stack}

@@ -1,9 +1,9 @@
 -- Each instruction that is met often, by what the code of its group answers.
-use Rattle.std.proofs.Common.{◌≡◌, length, slice_get, refl, ap}
+use Rattle.std.proofs.Common.{length, slice_get, refl, ap}
 use Rattle.std.proofs.lemmas.List.{length-map}
 use Rattle.wz_types.specs.declared.value.Value.TheVariants.{I32, I64}
 use Rattle.wz_code.specs.declared.instr.Instr.TheVariants.{Drop, Select, LocalGet, GlobalGet, GlobalSet, I32Const, I64Const}
-use Rattle.wz_machine.specs.State.{state_of, instance_of}
+use Rattle.wz_machine.specs.State.{instance_of}
 use Rattle.wz_machine.specs.Outcomes.{Does}
 use Rattle.wz_machine.specs.NumericSteps.{const_step}
 use Rattle.wz_machine.specs.ParametricSteps.{drop_step, select_step}

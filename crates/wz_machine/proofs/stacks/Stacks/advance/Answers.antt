@@ -1,4 +1,4 @@
-use Rattle.std.proofs.Common.{◌≡◌, ◌≤◌, ◌+◌, ◌-◌, inl, inr, refl, sym, subst, ap, ◌∙◌, arith}
+use Rattle.std.proofs.Common.{◌≡◌, ◌≤◌, ◌+◌, ◌-◌, inl, refl, subst, arith}
 use Rattle.wz_machine.specs.State.{state_of}
 use Rattle.wz_machine.specs.Stacks.{stacks_term}
 use Rattle.wz_machine.specs.Advance.{Reaches}
@@ -12,9 +12,10 @@ returns-then-left-eq0-clause-advanced g c =
     let term = stacks_term c.args.self.now in
     let made = c.args.limit - (c.loop-left.left - c.in_ok-pause.pause.made) in
     let both : Reaches made first term (state_of bodies c.run.new.store) (stacks_term c.run.new.self) =
-    reaches_left c.args.limit c.loop-left.left c.in_ok-pause.pause.made first (state_of bodies c.loop-left.store) (state_of bodies c.run.new.store) term (stacks_term c.loop-left.self)
-    (stacks_term c.run.new.self) c.loop-left.invariant.few c.in_ok-pause.ensures.limited c.loop-left.invariant.ran (c.in_ok-pause.ensures.ran bodies) in
-    (subst (λ k. Reaches k first term (state_of bodies c.run.new.store) (stacks_term c.run.new.self)) (omega (arith, c.in_ok-pause.ensures.limited)) both, inl refl)
+    reaches_left c.args.limit c.loop-left.left c.in_ok-pause.pause.made first (state_of bodies c.loop-left.store) (state_of bodies c.run.new.store) term
+    (stacks_term c.loop-left.self) (stacks_term c.run.new.self) c.loop-left.invariant.few c.in_ok-pause.ensures.limited c.loop-left.invariant.ran (c.in_ok-pause.ensures.ran bodies) in
+    let all : made ≡ c.args.limit = omega (arith, c.in_ok-pause.ensures.limited) in
+    (subst (λ k. Reaches k first term (state_of bodies c.run.new.store) (stacks_term c.run.new.self)) all both, inl refl)
 
 pub returns-in-Halts-clause-advanced : goal.returns-in-Halts-clause-advanced
 returns-in-Halts-clause-advanced g c =
@@ -23,8 +24,8 @@ returns-in-Halts-clause-advanced g c =
     let term = stacks_term c.args.self.now in
     let made = c.args.limit - (c.loop-left.left - c.in_ok-pause.pause.made) in
     let both : Reaches made first term (state_of bodies c.run.new.store) (stacks_term c.run.new.self) =
-    reaches_left c.args.limit c.loop-left.left c.in_ok-pause.pause.made first (state_of bodies c.loop-left.store) (state_of bodies c.run.new.store) term (stacks_term c.loop-left.self)
-    (stacks_term c.run.new.self) c.loop-left.invariant.few c.in_ok-pause.ensures.limited c.loop-left.invariant.ran (c.in_ok-pause.ensures.ran bodies) in
+    reaches_left c.args.limit c.loop-left.left c.in_ok-pause.pause.made first (state_of bodies c.loop-left.store) (state_of bodies c.run.new.store) term
+    (stacks_term c.loop-left.self) (stacks_term c.run.new.self) c.loop-left.invariant.few c.in_ok-pause.ensures.limited c.loop-left.invariant.ran (c.in_ok-pause.ensures.ran bodies) in
     let stepped = rw c.in-Halts.is at c.in_ok-onward.ensures.stepped in
     reaches_halt made c.args.limit first (state_of bodies c.run.new.store) (state_of bodies c.onward.new.store) term (stacks_term c.run.new.self)
     (stacks_term c.onward.new.self) both stepped
@@ -36,8 +37,8 @@ returns-in-Entered-clause-advanced g c =
     let term = stacks_term c.args.self.now in
     let made = c.args.limit - (c.loop-left.left - c.in_ok-pause.pause.made) in
     let both : Reaches made first term (state_of bodies c.run.new.store) (stacks_term c.run.new.self) =
-    reaches_left c.args.limit c.loop-left.left c.in_ok-pause.pause.made first (state_of bodies c.loop-left.store) (state_of bodies c.run.new.store) term (stacks_term c.loop-left.self)
-    (stacks_term c.run.new.self) c.loop-left.invariant.few c.in_ok-pause.ensures.limited c.loop-left.invariant.ran (c.in_ok-pause.ensures.ran bodies) in
+    reaches_left c.args.limit c.loop-left.left c.in_ok-pause.pause.made first (state_of bodies c.loop-left.store) (state_of bodies c.run.new.store) term
+    (stacks_term c.loop-left.self) (stacks_term c.run.new.self) c.loop-left.invariant.few c.in_ok-pause.ensures.limited c.loop-left.invariant.ran (c.in_ok-pause.ensures.ran bodies) in
     let stepped = rw c.in-Entered.is at c.in_ok-onward.ensures.stepped in
     reaches_entry made (made + 1) first (state_of bodies c.run.new.store) (state_of bodies c.onward.new.store) term (stacks_term c.run.new.self)
     (stacks_term c.onward.new.self) refl both stepped.0 stepped.1
@@ -49,14 +50,14 @@ loop-left-preserved g c =
     let term = stacks_term c.args.self.now in
     let made = c.args.limit - (c.loop-left.left - c.in_ok-pause.pause.made) in
     let both : Reaches made first term (state_of bodies c.run.new.store) (stacks_term c.run.new.self) =
-    reaches_left c.args.limit c.loop-left.left c.in_ok-pause.pause.made first (state_of bodies c.loop-left.store) (state_of bodies c.run.new.store) term (stacks_term c.loop-left.self)
-    (stacks_term c.run.new.self) c.loop-left.invariant.few c.in_ok-pause.ensures.limited c.loop-left.invariant.ran (c.in_ok-pause.ensures.ran bodies) in
+    reaches_left c.args.limit c.loop-left.left c.in_ok-pause.pause.made first (state_of bodies c.loop-left.store) (state_of bodies c.run.new.store) term
+    (stacks_term c.loop-left.self) (stacks_term c.run.new.self) c.loop-left.invariant.few c.in_ok-pause.ensures.limited c.loop-left.invariant.ran (c.in_ok-pause.ensures.ran bodies) in
     let stepped = rw c.in-Went.is at c.in_ok-onward.ensures.stepped in
     record {
       few = omega (arith, c.in_ok-pause.ensures.limited);
       ran =
-          reaches_more made (c.args.limit - (c.loop-left.left - c.in_ok-pause.pause.made - 1)) first (state_of bodies c.run.new.store) (state_of bodies c.onward.new.store) term (stacks_term c.run.new.self)
-          (stacks_term c.onward.new.self) (omega (arith, c.in_ok-pause.ensures.limited)) both stepped.0 stepped.1;
+          reaches_more made (c.args.limit - (c.loop-left.left - c.in_ok-pause.pause.made - 1)) first (state_of bodies c.run.new.store)
+          (state_of bodies c.onward.new.store) term (stacks_term c.run.new.self) (stacks_term c.onward.new.self) (omega (arith, c.in_ok-pause.ensures.limited)) both stepped.0 stepped.1;
     }
 
 pub returns-in_err-pause-clause-refused : goal.returns-in_err-pause-clause-refused
@@ -73,8 +74,8 @@ returns-in_err-onward-clause-refused g c =
     let term = stacks_term c.args.self.now in
     let made = c.args.limit - (c.loop-left.left - c.in_ok-pause.pause.made) in
     let both : Reaches made first term (state_of bodies c.run.new.store) (stacks_term c.run.new.self) =
-    reaches_left c.args.limit c.loop-left.left c.in_ok-pause.pause.made first (state_of bodies c.loop-left.store) (state_of bodies c.run.new.store) term (stacks_term c.loop-left.self)
-    (stacks_term c.run.new.self) c.loop-left.invariant.few c.in_ok-pause.ensures.limited c.loop-left.invariant.ran (c.in_ok-pause.ensures.ran bodies) in
+    reaches_left c.args.limit c.loop-left.left c.in_ok-pause.pause.made first (state_of bodies c.loop-left.store) (state_of bodies c.run.new.store) term
+    (stacks_term c.loop-left.self) (stacks_term c.run.new.self) c.loop-left.invariant.few c.in_ok-pause.ensures.limited c.loop-left.invariant.ran (c.in_ok-pause.ensures.ran bodies) in
     let few : made ≤ c.args.limit = omega (arith, c.in_ok-pause.ensures.limited) in
     on_err c.from_residual-in_err-onward.result
     (part_made bodies made c.args.limit first term c.run.new.store c.onward.new.store c.run.new.self c.onward.new.self few both c.in_err-onward.ensures.refused

@@ -1,4 +1,4 @@
-use Rattle.std.proofs.Common.{◌∙◌, List, ap, sym, refl}
+use Rattle.std.proofs.Common.{◌∙◌, List, ap, sym}
 use Rattle.wz_code.specs.declared.instr.Instr.{Instr}
 use Rattle.wz_code.specs.Trees.{code_in, tree_of, arm_of}
 use Rattle.wz_machine.proofs.StackLemmas.{block-code}

@@ -1,4 +1,4 @@
-use Rattle.std.proofs.Common.{◌≡◌, ◌≤◌, ◌+◌, refl, arith, inl, inr, ap, sym}
+use Rattle.std.proofs.Common.{◌≤◌, ◌+◌, refl, arith, inl, inr, ap}
 use Rattle.wz_machine.specs.declared.stacks.Kind.{Kind}
 use Rattle.wz_machine.specs.Kept.{entry_kind, entry_of}
 use Rattle.wz_machine.proofs.BranchLemmas.{branch-few, branch-ends, branch-left, branch-again}

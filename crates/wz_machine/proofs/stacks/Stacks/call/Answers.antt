@@ -1,4 +1,4 @@
-use Rattle.std.proofs.Common.{◌≡◌, length, refl, ap, sym, ◌∙◌, subst}
+use Rattle.std.proofs.Common.{refl, sym, subst}
 use Rattle.wz_machine.specs.State.{state_of}
 use Rattle.wz_machine.specs.Stacks.{StackParts, IsStacked}
 use Rattle.wz_machine.proofs.AskLemmas.{missing_called}

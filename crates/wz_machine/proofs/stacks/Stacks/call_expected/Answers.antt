@@ -1,18 +1,11 @@
-use Rattle.std.proofs.Common.{◌≡◌, ◌≤◌, ◌<◌, ◌+◌, ◌-◌, ℕ, List, Option, Some, None, length, reverse, slice_get, option_map, refl, ap, sym, ◌∙◌, subst, arith}
-use Rattle.wz_types.specs.declared.value.Value.{Value}
-use Rattle.wz_types.specs.declared.value.Sort.{Sort}
-use Rattle.wz_types.specs.declared.value.Reference.{Reference}
+use Rattle.std.proofs.Common.{Option, Some, option_map, refl, ap, sym, ◌∙◌, subst}
 use Rattle.wz_types.specs.declared.trap.TrapKind.TheVariants as trap
-use Rattle.wz_types.specs.FunctionType.{FunctionType}
-use Rattle.wz_machine.specs.State.{state_of, Callable}
-use Rattle.wz_machine.specs.CallSteps.{host_call, foreign_call, sort_call, expected_call, entry_call}
-use Rattle.wz_machine.specs.Step.{step}
-use Rattle.wz_machine.specs.Stacks.{StackParts, stacks_term, IsStacked}
+use Rattle.wz_machine.specs.CallSteps.{expected_call}
+use Rattle.wz_machine.specs.Stacks.{StackParts, IsStacked}
 use Rattle.wz_machine.specs.Turns.{own_of}
 use Rattle.wz_machine.specs.Callees.{callable_in}
 use Rattle.wz_machine.specs.declared.callee.Callee.{Callee}
-use Rattle.wz_machine.specs.Asks.{own_stack, top_number, AskTurned, OutcomeTurned}
-use Rattle.wz_machine.proofs.IndirectLemmas.{comes_as, outcome_stuck, outcome_traps, host_few, host_asked, foreign_other, foreign_same, expected_other, indirect_unnumbered, indirect_untyped, indirect_untabled, entry_comes}
+use Rattle.wz_machine.proofs.IndirectLemmas.{outcome_stuck, outcome_traps, expected_other}
 use Rattle.wz_machine.proofs.stacks.Stacks.call_expected.Goals as goal
 
 pub returns-in_default-clause-turned : goal.returns-in_default-clause-turned

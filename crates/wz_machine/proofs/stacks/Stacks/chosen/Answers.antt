@@ -1,7 +1,6 @@
-use Rattle.std.proofs.Common.{◌≡◌, ◌∙◌, ℕ, zero, suc, List, ap, sym, refl}
+use Rattle.std.proofs.Common.{◌∙◌, List, ap}
 use Rattle.wz_code.specs.declared.instr.Instr.{Instr}
-use Rattle.wz_code.specs.Trees.{code_in, tree_of, arm_of}
-use Rattle.wz_machine.specs.Turns.{arm_chosen}
+use Rattle.wz_code.specs.Trees.{code_in}
 use Rattle.wz_machine.proofs.StackLemmas.{block-code}
 use Rattle.wz_machine.proofs.ControlLemmas.{second-chosen, first-chosen}
 use Rattle.wz_machine.proofs.stacks.Stacks.chosen.Goals as goal

@@ -1,4 +1,4 @@
-use Rattle.std.proofs.Common.{◌≡◌, ◌∙◌, refl, sym, arith}
+use Rattle.std.proofs.Common.{◌∙◌, refl, sym, arith}
 use Rattle.wz_machine.proofs.EntryLemmas.{entry-untyped, no-type, few-turn, block-turn, loop-turn}
 use Rattle.wz_machine.proofs.stacks.Stacks.enter.Goals as goal
 

@@ -1,4 +1,4 @@
-use Rattle.std.proofs.Common.{◌≡◌, ◌∙◌, [], ◌∷◌, sym, rules}
+use Rattle.std.proofs.Common.{◌≡◌, ◌∙◌, ◌∷◌, sym, rules}
 use Rattle.wz_machine.proofs.PeekLemmas.{first-shown, none-shown}
 use Rattle.wz_machine.proofs.stacks.Stacks.first.Goals as goal
 

@@ -1,4 +1,4 @@
-use Rattle.std.proofs.Common.{◌≡◌, ◌∙◌, ℕ, ap, sym, subst}
+use Rattle.std.proofs.Common.{◌∙◌, ℕ, ap, sym, subst}
 use Rattle.wz_machine.specs.Outcomes.{Answer}
 use Rattle.wz_machine.specs.Landing.{landing}
 use Rattle.wz_machine.specs.Turns.{Turned, own_of}

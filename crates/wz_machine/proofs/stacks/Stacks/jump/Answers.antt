@@ -1,4 +1,4 @@
-use Rattle.std.proofs.Common.{◌≡◌, refl, sym, subst, arith}
+use Rattle.std.proofs.Common.{refl, sym, subst, arith}
 use Rattle.wz_machine.specs.Outcomes.{Answer}
 use Rattle.wz_machine.specs.Turns.{Turned}
 use Rattle.wz_machine.proofs.StepLemmas.{jump-lands, jump-stuck}

@@ -1,7 +1,5 @@
 use Rattle.std.proofs.Common.{◌≡◌, ◌∙◌, ◌<◌, length, subst, arith, rules}
 use Rattle.wz_machine.specs.Stacks.{StackParts, IsStacked}
-use Rattle.wz_machine.specs.Kept.{stack_parts}
-use Rattle.wz_machine.specs.Landing.{IsLeft}
 use Rattle.wz_machine.proofs.KeptLemmas.{left-stacked, left-parts, moved-values, outer-kept}
 use Rattle.wz_machine.proofs.stacks.Stacks.leave.Goals as goal
 

@@ -1,4 +1,4 @@
-use Rattle.std.proofs.Common.{◌≡◌, ◌≤◌, ◌+◌, subst, ap, refl, arith, rules}
+use Rattle.std.proofs.Common.{◌≡◌, subst, ap, refl, arith, rules}
 use Rattle.wz_machine.specs.Stacks.{StackParts, IsStacked}
 use Rattle.wz_machine.proofs.KeptLemmas.{left-stacked, last-parts, moved-values}
 use Rattle.wz_machine.proofs.stacks.Stacks.leave_last.Goals as goal

@@ -1,7 +1,6 @@
-use Rattle.std.proofs.Common.{◌≡◌, ◌∙◌, false, true, ap, subst}
+use Rattle.std.proofs.Common.{◌∙◌, false, true, subst}
 use Rattle.wz_machine.specs.State.{State, state_of}
 use Rattle.wz_machine.specs.Stacks.{StackParts, stacks_term}
-use Rattle.wz_machine.specs.Frames.{frame_count, local_count}
 use Rattle.wz_machine.specs.Advance.{StepsOn, IsStepOn, IsOnward}
 use Rattle.wz_machine.specs.declared.advance.Onward.TheVariants as onward
 use Rattle.wz_machine.proofs.AdvanceLemmas.{within_on}

@@ -1,7 +1,5 @@
 use Rattle.std.proofs.Common.{◌≡◌, ◌-◌, ◌+◌, ◌++◌, List, [], length, take, drop, ap, sym, ◌∙◌, arith}
 use Rattle.wz_types.specs.declared.value.Value.{Value}
-use Rattle.wz_machine.specs.Kept.{entry_of}
-use Rattle.wz_machine.proofs.KeptLemmas.{parts_in}
 use Rattle.wz_machine.proofs.RunLemmas.{items_written, code_left, IsRun, run_lands_at}
 use Rattle.wz_machine.proofs.stacks.Stacks.run.Goals as goal
 

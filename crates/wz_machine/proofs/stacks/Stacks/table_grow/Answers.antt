@@ -1,12 +1,11 @@
-use Rattle.std.proofs.Common.{◌≡◌, ℕ, List, Bool, Option, Some, length, reverse, slice_get, refl, ap, sym, ◌∙◌, subst, arith}
+use Rattle.std.proofs.Common.{◌≡◌, List, Bool, Some, length, reverse, slice_get, refl, ap, sym, ◌∙◌, subst, arith}
 use Rattle.wz_types.specs.declared.value.Value.{Value}
-use Rattle.wz_types.specs.declared.value.Reference.{Reference}
 use Rattle.wz_store.specs.Changes.{Nothing}
 use Rattle.wz_machine.specs.State.{state_of}
 use Rattle.wz_machine.specs.Outcomes.{Next}
 use Rattle.wz_machine.specs.Stacks.{StackParts, stacks_term, IsStacked}
-use Rattle.wz_machine.specs.Growths.{memory_growable, table_growable}
-use Rattle.wz_machine.specs.Asks.{own_stack, top_number, top_growth}
+use Rattle.wz_machine.specs.Growths.{table_growable}
+use Rattle.wz_machine.specs.Asks.{own_stack, top_growth}
 use Rattle.wz_machine.proofs.KeptLemmas.{used-kept}
 use Rattle.std.proofs.Common.{true, false, None}
 use Rattle.wz_machine.proofs.GrowAskLemmas.{table_unnumbered, table_missing, table_fails, table_asks}

@@ -1,4 +1,4 @@
-use Rattle.std.proofs.Common.{◌≡◌, ◌∙◌, ◌≤◌, List, ◌∷◌, Some, slice_get, length, subst, ap, arith, rules}
+use Rattle.std.proofs.Common.{◌≡◌, ◌≤◌, List, ◌∷◌, Some, slice_get, length, subst, ap, arith, rules}
 use Rattle.wz_machine.specs.declared.stacks.Opened.{Opened}
 use Rattle.wz_machine.specs.Kept.{entry_of}
 use Rattle.wz_machine.specs.Stacks.{StackParts, IsStacked}

@@ -3,7 +3,7 @@ use Rattle.std.proofs.lemmas.List.{length-take-le}
 use Rattle.wz_store.specs.Changes.{range_of}
 use Rattle.wz_machine.specs.Stacks.{StackParts}
 use Rattle.wz_machine.specs.Asks.{stepped}
-use Rattle.wz_machine.proofs.TickLemmas.{ticked-asked, operands-last, asked-standing}
+use Rattle.wz_machine.proofs.TickLemmas.{ticked-asked, operands-last}
 use Rattle.wz_machine.proofs.stacks.Stacks.tick.Goals as goal
 
 pub returns-in-Asks-clause-ticked : goal.returns-in-Asks-clause-ticked
