@@ -27,7 +27,7 @@ ghost use Rattle.wz_machine.specs.Callees.{callable_in};
 
 /// The function of this number; None where there is none, or where its type or its body isn't
 /// there.
-#[inline]
+#[inline(always)]
 pub(crate) fn callee_at<'m, M: Linear>(
     bodies: &'m [Body],
     store: &Store<'m, M>,
