@@ -1,5 +1,5 @@
 -- Many steps, put together.
-use Rattle.std.proofs.Common.{◌≡◌, ◌≤◌, ◌<◌, ◌+◌, ◌-◌, ◌⊎◌, ℕ, zero, suc, List, [], ◌∷◌, Option, Some, MatchBool, Result, Ok, Err, OnErr, Bool, true, false, inl, inr, length, take, slice_get, get_or, set, refl, ap, sym, subst, ◌∙◌, arith}
+use Rattle.std.proofs.Common.{◌≡◌, ◌≤◌, ◌<◌, ◌+◌, ◌-◌, ◌⊎◌, ℕ, zero, suc, List, [], ◌∷◌, Option, Some, Result, Ok, Err, OnErr, Bool, false, IsFalse, inl, inr, length, take, slice_get, get_or, set, refl, ap, sym, subst, ◌∙◌, arith}
 use Rattle.std.proofs.lemmas.List.{nil_from_length}
 use Rattle.wz_code.specs.declared.instr.Instr.{Instr}
 use Rattle.wz_code.specs.declared.instr.Instr.TheVariants.{Block, Loop, If, Br, BrIf}
@@ -10,15 +10,18 @@ use Rattle.wz_store.specs.Changes.{Nothing}
 use Rattle.wz_machine.specs.State.{State, state_of}
 use Rattle.wz_machine.specs.Terms.{Term, Standing}
 use Rattle.wz_machine.specs.Standings.{StandingParts, standing_of, stack_of}
-use Rattle.wz_machine.specs.Outcomes.{Answer}
+use Rattle.wz_machine.specs.Outcomes.{Branches, Answer}
 use Rattle.wz_machine.specs.Step.{step}
 use Rattle.wz_machine.specs.Next.{Head, head_of, next}
-use Rattle.wz_machine.specs.Stacks.{CallEntry, LoopEntry, Entry, StackParts, stacks_term, IsStacked}
+use Rattle.wz_machine.specs.Stacks.{CallEntry, LoopEntry, Entry, StackParts, flat_of, stacks_term, IsStacked}
 use Rattle.wz_machine.specs.Straight.{changes_table}
 use Rattle.wz_machine.specs.Strides.{Gone}
-use Rattle.wz_machine.specs.Turns.{HasNumber}
+use Rattle.wz_machine.specs.Turns.{own_of, HasNumber, JumpTurned}
+use Rattle.wz_machine.specs.declared.turn.Turn.TheVariants as turn
+use Rattle.wz_machine.specs.Contexts.{content_reduct}
+use Rattle.wz_machine.specs.Flat.{content_of}
 use Rattle.wz_machine.specs.Landing.{IsAgain, IsLeft}
-use Rattle.wz_machine.specs.Advance.{head_changes_table, StandingAdvanced, StackAdvanced, IsAdvancePart, StandingAdvancedPart, StackAdvancedPart, StepsOn, EntersNone, Enters, Reaches, ReachesEntry, GoesNot, HaltsNext, IsStepOn, IsOnward, BranchesHere, BeginsAnew, StaysWithin}
+use Rattle.wz_machine.specs.Advance.{head_changes_table, StandingAdvanced, StackAdvanced, IsAdvancePart, StandingAdvancedPart, StackAdvancedPart, StepsOn, EntersNone, Enters, Reaches, ReachesEntry, GoesNot, HaltsNext, IsStepOn, IsOnward, StaysWithin}
 use Rattle.wz_machine.specs.declared.advance.Onward.TheVariants as onward
 use Rattle.wz_machine.proofs.BranchLemmas.{branch-again}
 use Rattle.wz_machine.proofs.KeptLemmas.{again-stacked, left-stacked, found-at, counts-fall}
@@ -42,11 +45,11 @@ reaches_add m (suc n) s between after term middle new first (x, t, rest, on, non
     subst (λ k. Reaches k s term after new) more (x, t, reaches_add m n s between x term middle t first rest, on, none)
 
 -- the same, counted by how many are left of a limit
-pub reaches_left : (limit left n : ℕ) (s between after : State) (term middle new : Term) → left ≤ limit → n ≤ left → Reaches (limit - left) s term between middle
-    → Reaches n between middle after new → Reaches (limit - (left - n)) s term after new
-reaches_left limit left n s between after term middle new few within first rest =
-    let count : limit - left + n ≡ limit - (left - n) = omega (arith, few, within) in
-    subst (λ k. Reaches k s term after new) count (reaches_add (limit - left) n s between after term middle new first rest)
+pub reaches_left : (limit left rest : ℕ) (s between after : State) (term middle new : Term) → left ≤ limit → rest ≤ left → Reaches (limit - left) s term between middle
+    → Reaches (left - rest) between middle after new → Reaches (limit - rest) s term after new
+reaches_left limit left rest s between after term middle new few within first more =
+    let count : limit - left + (left - rest) ≡ limit - rest = omega (arith, few, within) in
+    subst (λ k. Reaches k s term after new) count (reaches_add (limit - left) (left - rest) s between after term middle new first more)
 
 -- one step more, that enters no function
 pub reaches_more : (m n : ℕ) (s between after : State) (term middle new : Term) → n ≡ m + 1 → Reaches m s term between middle → StepsOn between middle after new
@@ -143,6 +146,18 @@ stack_part limit s after xs ys before now d n len some is set_to (made, few, adv
 
 -- ---- a branch to the innermost loop
 
+-- the instruction in front branches to the innermost label, and so many values stay
+pub record BranchesHere (s : StackParts) (have : ℕ) : Type 0 where
+  pub own : s.top.height ≤ have
+  pub within : have ≤ length s.values
+  pub reduct : (st : State) → content_reduct st (content_of (flat_of s)) ≡ Branches 0 (own_of s have)
+  pub spares : IsFalse (head_changes_table (next (stacks_term s)))
+
+-- the innermost entry begins anew, as by a branch to it with what its block has of so many values
+pub record BeginsAnew (before : StackParts) (have : ℕ) (now : StackParts) : Type 0 where
+  pub turned : JumpTurned before 0 have turn.Went now
+  pub none : EntersNone (stacks_term before) (stacks_term now)
+
 pub br_here : (s : StackParts) (label : ℕ) (rest : List Instr) (have : ℕ) → s.top.rest ≡ Br label ∷ rest → label ≡ 0 → have ≡ length s.values
     → s.top.height ≤ have → BranchesHere s have
 br_here s label rest have e none is own =
@@ -182,13 +197,8 @@ begins_anew s now have target again stacked same lt arity own within base kind b
       };
     }
 
-repeats_by : (s now : StackParts) (have : ℕ) → BranchesHere s have → BeginsAnew s have now → StaysWithin s now
+pub repeats_by : (s now : StackParts) (have : ℕ) → BranchesHere s have → BeginsAnew s have now → StaysWithin s now
 repeats_by s now have here anew = record { turned = λ st. anew.turned st (here.reduct st); spares = here.spares; none = anew.none }
-
-pub repeats_if : (done : Bool) (s now : StackParts) (have : ℕ) → BranchesHere s have → MatchBool done (BeginsAnew s have now) (now ≡ s)
-    → MatchBool done (StaysWithin s now) (now ≡ s)
-repeats_if true s now have here anew = repeats_by s now have here anew
-repeats_if false s now have here same = same
 
 -- ---- the end of a block or a function
 

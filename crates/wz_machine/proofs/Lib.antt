@@ -45,6 +45,7 @@ pub mod AskLemmas
 pub mod StraightLemmas
 pub mod TriedLemmas
 pub mod SiteLemmas
+pub mod LapLemmas
 pub mod RunLemmas
 pub mod GrowAskLemmas
 pub mod TurnLemmas

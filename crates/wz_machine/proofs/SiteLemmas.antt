@@ -1,5 +1,5 @@
 -- A plain instruction at the split of the machine's values (below the locals, locals, between, own) is a step of the term.
-use Rattle.std.proofs.Common.{◌≡◌, ◌≤◌, ◌+◌, ◌-◌, ◌^◌, ℕ, zero, suc, List, [], ◌∷◌, ◌++◌, Option, Some, IsFalse, map, take, drop, reverse, length, slice_set, append_assoc, refl, ap, sym, subst, ◌∙◌, arith}
+use Rattle.std.proofs.Common.{◌≡◌, ◌≤◌, ◌+◌, ◌-◌, ◌^◌, ℕ, List, [], ◌∷◌, ◌++◌, Option, Some, IsFalse, map, take, drop, reverse, length, slice_set, append_assoc, refl, ap, sym, subst, ◌∙◌, arith}
 use Rattle.std.proofs.Math.Seq.{take-add}
 use Rattle.std.proofs.lemmas.List.{length-append, length-set, length-drop, length-take-le, take_at, drop_at, take-take, drop-take, drop-drop, set-append_left, set-append_right}
 use Rattle.wz_types.specs.declared.value.Value.{Value}
@@ -20,10 +20,10 @@ use Rattle.wz_machine.specs.Flat.{FlatStacks, locals_in, own_values, content_of,
 use Rattle.wz_machine.specs.Stacks.{EntryKind, CallEntry, BlockEntry, LoopEntry, Entry, StackParts, open_kind, opened_of, flat_of, stacks_term, HasRoom, IsKindIn, AreStacked, IsStacked}
 use Rattle.wz_machine.specs.declared.plain.Plain.TheVariants.{Went}
 use Rattle.wz_machine.specs.PlainSteps.{used, step_at, HoldsNone, WentOn, Yielded, SetLocal, PlainReply}
-use Rattle.wz_machine.specs.Straight.{changes_table, Point, point, GoesOn, RunsTo}
+use Rattle.wz_machine.specs.Straight.{changes_table, Point, point, GoesOn}
 use Rattle.wz_machine.specs.declared.run.Places.{Places}
 use Rattle.wz_machine.specs.Running.{site_of, AreInOrder, SameApart}
-use Rattle.wz_machine.specs.Advance.{leaf_changes_table, head_changes_table, StepsOn, EntersNone, Reaches}
+use Rattle.wz_machine.specs.Advance.{leaf_changes_table, head_changes_table, StepsOn, EntersNone}
 use Rattle.wz_machine.proofs.FlatLemmas.{plain_step, local_step}
 use Rattle.wz_machine.proofs.ChangeLemmas.{change_reaches_state}
 use Rattle.wz_machine.proofs.KeptLemmas.{stacked-moved}
@@ -76,19 +76,19 @@ pub record IsSplit (s : StackParts) (below between : List Value) (p : Point) : T
   pub locals : length p.at.locals ≡ s.top.locals_end - s.top.locals_at
   pub middle : length between ≡ s.top.height - s.top.locals_end
 
-front-size : (s : StackParts) (below between : List Value) (p : Point) → IsSplit s below between p → length (below ++ (p.at.locals ++ between)) ≡ s.top.height
+pub front-size : (s : StackParts) (below between : List Value) (p : Point) → IsSplit s below between p → length (below ++ (p.at.locals ++ between)) ≡ s.top.height
 front-size s below between p h =
     omega (arith, length-append below (p.at.locals ++ between), length-append p.at.locals between, h.under, h.locals, h.middle, h.room.locals, h.room.height)
 
-regroup : (below locals between own : List Value) → below ++ (locals ++ (between ++ own)) ≡ (below ++ (locals ++ between)) ++ own
+pub regroup : (below locals between own : List Value) → below ++ (locals ++ (between ++ own)) ≡ (below ++ (locals ++ between)) ++ own
 regroup below locals between own = simp append_assoc
 
-own-at : (s : StackParts) (below between : List Value) (p : Point) → IsSplit s below between p → drop s.top.height (values_at below between p) ≡ take p.have p.at.own
+pub own-at : (s : StackParts) (below between : List Value) (p : Point) → IsSplit s below between p → drop s.top.height (values_at below between p) ≡ take p.have p.at.own
 own-at s below between p h =
     ap (λ (vs : List Value). drop s.top.height vs) (regroup below p.at.locals between (take p.have p.at.own))
     ∙ drop_at (below ++ (p.at.locals ++ between)) (take p.have p.at.own) s.top.height (front-size s below between p h)
 
-front-at : (s : StackParts) (below between : List Value) (p : Point) → IsSplit s below between p
+pub front-at : (s : StackParts) (below between : List Value) (p : Point) → IsSplit s below between p
     → take s.top.height (values_at below between p) ≡ below ++ (p.at.locals ++ between)
 front-at s below between p h =
     ap (λ (vs : List Value). take s.top.height vs) (regroup below p.at.locals between (take p.have p.at.own))
@@ -112,11 +112,11 @@ at-site bodies s below between p instr h =
     ∙ ap (λ (vs : List Value). leaf_step (state_of bodies p.at.store) p.at.locals (leaf_in s.top.body instr) (reverse vs)) (own-at s below between p h)
 
 -- the first instruction that is left is the leaf
-leaf-first : (body : BodyParts) (instr : Instr) (rest tail : List Instr) → HoldsNone body instr → rest ≡ instr ∷ tail → code_in body rest ≡ Then (leaf_in body instr) (code_in body tail)
+pub leaf-first : (body : BodyParts) (instr : Instr) (rest tail : List Instr) → HoldsNone body instr → rest ≡ instr ∷ tail → code_in body rest ≡ Then (leaf_in body instr) (code_in body tail)
 leaf-first body instr rest tail alone is = ap (λ (code : List Instr). code_in body code) is ∙ alone (code_in body tail)
 
 -- what stays of a split
-split-kept : (s : StackParts) (below between : List Value) (p q : Point) → IsSplit s below between p → length q.at.locals ≡ length p.at.locals → IsSplit s below between q
+pub split-kept : (s : StackParts) (below between : List Value) (p q : Point) → IsSplit s below between p → length q.at.locals ≡ length p.at.locals → IsSplit s below between q
 split-kept s below between p q h size =
     record { stacked = h.stacked; room = h.room; under = h.under; locals = size ∙ h.locals; middle = h.middle }
 
@@ -127,7 +127,7 @@ pub record HasStepped (bodies : List BodyParts) (s : StackParts) (below between 
   pub changed : q.at.store ≡ applied change p.at.store
   pub split : IsSplit s below between q
 
-went-on : (bodies : List BodyParts) (s : StackParts) (below between : List Value) (p q : Point) (instr : Instr) → IsSplit s below between p
+pub went-on : (bodies : List BodyParts) (s : StackParts) (below between : List Value) (p q : Point) (instr : Instr) → IsSplit s below between p
     → code_in s.top.body p.rest ≡ Then (leaf_in s.top.body instr) (code_in s.top.body q.rest)
     → WentOn (step_at s.top.body instr p.have p.at bodies) q.have p.at q.at → HasStepped bodies s below between p q
 went-on bodies s below between p q instr h first (Yielded change yields store locals) =
@@ -176,7 +176,7 @@ pub record IsFew (s : StackParts) : Type 0 where
   pub few : s.top.frames ≤ 2 ^ 32
   pub small : s.top.frame_locals ≤ 2 ^ 32
 
-stacked-at : (s : StackParts) (below between : List Value) (p : Point) → IsFew s → IsSplit s below between p → IsStacked (stacks_at s below between p)
+pub stacked-at : (s : StackParts) (below between : List Value) (p : Point) → IsFew s → IsSplit s below between p → IsStacked (stacks_at s below between p)
 stacked-at s below between p few h =
     let front : List Value = below ++ (p.at.locals ++ between) in
     let own : List Value = take p.have p.at.own in
@@ -189,7 +189,7 @@ stacked-at s below between p few h =
       small = few.small;
     }
 
-enters-none : (s : StackParts) (below between : List Value) (p q : Point) → IsFew s → IsSplit s below between p → IsSplit s below between q
+pub enters-none : (s : StackParts) (below between : List Value) (p q : Point) → IsFew s → IsSplit s below between p → IsSplit s below between q
     → EntersNone (stacks_term (stacks_at s below between p)) (stacks_term (stacks_at s below between q))
 enters-none s below between p q few h k =
     let one = stacked-at s below between p few h in
@@ -200,7 +200,7 @@ enters-none s below between p q few h k =
     }
 
 -- a step of a run is a step of the term that goes on
-steps-on : (bodies : List BodyParts) (s : StackParts) (below between : List Value) (p q : Point) (goes : GoesOn s.top.body p q)
+pub steps-on : (bodies : List BodyParts) (s : StackParts) (below between : List Value) (p q : Point) (goes : GoesOn s.top.body p q)
     → code_in s.top.body p.rest ≡ Then (leaf_in s.top.body goes.instr) (code_in s.top.body q.rest) → HasStepped bodies s below between p q
     → StepsOn (state_of bodies p.at.store) (stacks_term (stacks_at s below between p)) (state_of bodies q.at.store) (stacks_term (stacks_at s below between q))
 steps-on bodies s below between p q goes first r =
@@ -212,30 +212,6 @@ steps-on bodies s below between p q goes first r =
       goes = r.goes;
       state = r.state;
       spares = subst P (sym head) (leaf-spares s.top.body goes.instr ∙ goes.spares);
-    }
-
-pub record HasReached (bodies : List BodyParts) (s : StackParts) (below between : List Value) (n : ℕ) (p q : Point) : Type 0 where
-  pub reaches : Reaches n (state_of bodies p.at.store) (stacks_term (stacks_at s below between p)) (state_of bodies q.at.store) (stacks_term (stacks_at s below between q))
-  pub split : IsSplit s below between q
-
-pub runs_reach : (bodies : List BodyParts) (s : StackParts) (below between : List Value) (n : ℕ) (p q : Point) → IsFew s → IsSplit s below between p
-    → RunsTo s.top.body n p q → HasReached bodies s below between n p q
-runs_reach bodies s below between zero p q few h same =
-    let P : Point → Type 0 = λ x. HasReached bodies s below between zero p x in
-    subst P (sym same) (record { reaches = (refl, refl); split = h })
-runs_reach bodies s below between (suc n) p q few h (m, runs, goes) =
-    let r = runs_reach bodies s below between n p m few h runs in
-    let first = leaf-first s.top.body goes.instr m.rest q.rest goes.went.0 goes.first in
-    let stepped = went-on bodies s below between m q goes.instr r.split first (goes.went.2 bodies) in
-    record {
-      reaches = (
-        state_of bodies m.at.store,
-        stacks_term (stacks_at s below between m),
-        r.reaches,
-        steps-on bodies s below between m q goes first stepped,
-        enters-none s below between m q few r.split stepped.split,
-      );
-      split = stepped.split;
     }
 
 -- ---- the values put together anew
@@ -289,7 +265,7 @@ range-size : (values : List Value) (from count : ℕ) → from + count ≤ lengt
 range-size values from count fits = length-take-le count (drop from values) (omega (arith, length-drop from values, fits))
 
 -- the split of stacks whose values have room behind them, before an instruction and after it
-split-of : (s : StackParts) (values : List Value) (have : ℕ) (store : StateOf Function) → IsStacked s → have ≤ length values → s.top.height ≤ have
+pub split-of : (s : StackParts) (values : List Value) (have : ℕ) (store : StateOf Function) → IsStacked s → have ≤ length values → s.top.height ≤ have
     → IsSplit s (take s.top.locals_at values) (range_of values s.top.locals_end (s.top.height - s.top.locals_end))
     (point s.top.rest (have - s.top.height) (site_of (places_of s.top) values store))
 split-of s values have store stacked fits own =
@@ -304,14 +280,14 @@ split-of s values have store stacked fits own =
       middle = range-size values to (height - to) (omega (arith, stacked.room.height, own, fits));
     }
 
-values-before : (s : StackParts) (values : List Value) (have : ℕ) (store : StateOf Function) → IsStacked s → take have values ≡ s.values → s.top.height ≤ have
+pub values-before : (s : StackParts) (values : List Value) (have : ℕ) (store : StateOf Function) → IsStacked s → take have values ≡ s.values → s.top.height ≤ have
     → values_at (take s.top.locals_at values) (range_of values s.top.locals_end (s.top.height - s.top.locals_end))
     (point s.top.rest (have - s.top.height) (site_of (places_of s.top) values store)) ≡ s.values
 values-before s values have store stacked held own =
     sym (values-split s.top.locals_at s.top.locals_end s.top.height (have - s.top.height) values stacked.room.locals stacked.room.height)
     ∙ ap (λ k. take k values) (omega (arith, own)) ∙ held
 
-values-after : (s : StackParts) (values new : List Value) (rest : List Instr) (n : ℕ) (after : StateOf Function) → IsStacked s → SameApart (places_of s.top) values new
+pub values-after : (s : StackParts) (values new : List Value) (rest : List Instr) (n : ℕ) (after : StateOf Function) → IsStacked s → SameApart (places_of s.top) values new
     → values_at (take s.top.locals_at values) (range_of values s.top.locals_end (s.top.height - s.top.locals_end)) (point rest n (site_of (places_of s.top) new after))
     ≡ take (s.top.height + n) new
 values-after s values new rest n after stacked apart =
@@ -349,44 +325,3 @@ went_lands bodies s values new have n store after instr rest stacked held fits o
     let half : P s.values (values_at below between q) =
     subst (λ (vs : List Value). P vs (values_at below between q)) (values-before s values have store stacked held own) at-parts in
     subst (λ (ws : List Value). P s.values ws) (values-after s values new rest n after stacked apart) half
-
--- what a run came to
-pub record HasRun (bodies : List BodyParts) (s : StackParts) (made : ℕ) (store after : StateOf Function) (now : StackParts) : Type 0 where
-  pub reaches : Reaches made (state_of bodies store) (stacks_term s) (state_of bodies after) (stacks_term now)
-  pub stacked : IsStacked now
-
--- a run over the values of stacks, behind which there is room
-pub run_lands : (bodies : List BodyParts) (s : StackParts) (values new : List Value) (have made n : ℕ) (store after : StateOf Function) → IsStacked s
-    → take have values ≡ s.values → have ≤ length values → s.top.height ≤ have → SameApart (places_of s.top) values new
-    → RunsTo s.top.body made (point s.top.rest (have - s.top.height) (site_of (places_of s.top) values store))
-    (point (drop made s.top.rest) n (site_of (places_of s.top) new after))
-    → HasRun bodies s made store after (record { top = record s.top { rest = drop made s.top.rest }; outer = s.outer; values = take (s.top.height + n) new })
-run_lands bodies s values new have made n store after stacked held fits own apart runs =
-    let from : ℕ = s.top.locals_at in
-    let to : ℕ = s.top.locals_end in
-    let height : ℕ = s.top.height in
-    let below : List Value = take from values in
-    let between : List Value = range_of values to (height - to) in
-    let p : Point = point s.top.rest (have - height) (site_of (places_of s.top) values store) in
-    let q : Point = point (drop made s.top.rest) n (site_of (places_of s.top) new after) in
-    let few : IsFew s = record { few = stacked.few; small = stacked.small } in
-    let split : IsSplit s below between p = record {
-      stacked = stacked.stacked;
-      room = stacked.room;
-      under = length-take-le from values (omega (arith, stacked.room.locals, stacked.room.height, own, fits));
-      locals = range-size values from (to - from) (omega (arith, stacked.room.locals, stacked.room.height, own, fits));
-      middle = range-size values to (height - to) (omega (arith, stacked.room.height, own, fits));
-    } in
-    let r = runs_reach bodies s below between made p q few split runs in
-    let whole : height + (have - height) ≡ have = omega (arith, own) in
-    let before : values_at below between p ≡ s.values =
-    sym (values-split from to height (have - height) values stacked.room.locals stacked.room.height) ∙ ap (λ k. take k values) whole ∙ held in
-    let later : values_at below between q ≡ take (height + n) new =
-    ap (λ (vs : List Value). vs ++ (range_of new from (to - from) ++ (between ++ take n (drop height new)))) (sym apart.below)
-    ∙ ap (λ (vs : List Value). take from new ++ (range_of new from (to - from) ++ (vs ++ take n (drop height new)))) (sym apart.between)
-    ∙ sym (values-split from to height n new stacked.room.locals stacked.room.height) in
-    let P : List Value → List Value → Type 0 = λ vs ws. HasRun bodies (record { top = s.top; outer = s.outer; values = vs }) made store after
-    (record { top = record s.top { rest = drop made s.top.rest }; outer = s.outer; values = ws }) in
-    let at-parts : P (values_at below between p) (values_at below between q) = record { reaches = r.reaches; stacked = stacked-at s below between q few r.split } in
-    let half : P s.values (values_at below between q) = subst (λ (vs : List Value). P vs (values_at below between q)) before at-parts in
-    subst (λ (ws : List Value). P s.values ws) later half

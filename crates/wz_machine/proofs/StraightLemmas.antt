@@ -5,7 +5,7 @@ use Rattle.wz_code.specs.declared.instr.Instr.{Instr}
 use Rattle.wz_code.specs.BodyParts.{BodyParts}
 use Rattle.wz_machine.specs.declared.plain.Plain.TheVariants.{Went}
 use Rattle.wz_machine.specs.PlainSteps.{Site, PlainReply}
-use Rattle.wz_machine.specs.Straight.{changes_table, point, GoesOn, RunsTo, Halts, HaltsAt}
+use Rattle.wz_machine.specs.Straight.{changes_table, point, GoesOn, RunsTo}
 
 -- So many instructions of a run are begun, and these are left of them; it has come to a point of the code.
 pub record IsRunning (body : BodyParts) (code rest : List Instr) (limit started have now room : ℕ) (old new : Site) : Type 0 where
@@ -69,15 +69,3 @@ pub ran_to : (body : BodyParts) (code rest : List Instr) (limit started have now
 ran_to body code rest limit started have now room old middle new r same =
     let P : Site → Type 0 = λ at. RunsTo body (started - length rest) (point code have old) (point (drop (started - length rest) code) now at) in
     subst P (sym same) r.ran
-
-pub halts_at : (body : BodyParts) (code rest tail : List Instr) (instr : Instr) (limit started have now room : ℕ) (old middle new : Site)
-    → IsRunning body code rest limit started have now room old middle → rest ≡ instr ∷ tail → new ≡ middle → Halts body instr now middle
-    → HaltsAt body (point (drop (started - length rest) code) now new)
-halts_at body code rest tail instr limit started have now room old middle new r is same halts =
-    let P : Site → Type 0 = λ at. Halts body instr now at in
-    record {
-      instr = instr;
-      tail = tail ++ drop started code;
-      first = r.left ∙ ap (λ (l : List Instr). l ++ drop started code) is;
-      halts = subst P (sym same) halts;
-    }

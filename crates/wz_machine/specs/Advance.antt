@@ -1,18 +1,16 @@
 -- Many steps of one term that plainly go on (section 4.4 of the Core Specification), as a run makes them.
-use Rattle.std.specs.Prelude.{◌≡◌, ◌≤◌, ◌<◌, ◌⊎◌, ℕ, zero, suc, List, [], ◌∷◌, Option, Some, None, Bool, true, false, IsTrue, IsFalse, length}
+use Rattle.std.specs.Prelude.{◌≡◌, ◌≤◌, ◌<◌, ◌⊎◌, ℕ, zero, suc, List, [], ◌∷◌, Option, Some, None, Bool, true, false, IsTrue, IsFalse}
 use Rattle.wz_code.specs.Trees.{Leaf, Plain, TableBranch, TypedSelect}
 use Rattle.wz_store.specs.Changes.{Change, applied}
 use Rattle.wz_machine.specs.State.{State}
 use Rattle.wz_machine.specs.Terms.{Term, Standing, Runs, Waits}
-use Rattle.wz_machine.specs.Outcomes.{Branches, Answer, Next, Done, Trap, Ask, Stuck}
+use Rattle.wz_machine.specs.Outcomes.{Answer, Next, Done, Trap, Ask, Stuck}
 use Rattle.wz_machine.specs.Step.{step}
-use Rattle.wz_machine.specs.Contexts.{content_reduct}
-use Rattle.wz_machine.specs.Flat.{content_of}
 use Rattle.wz_machine.specs.Next.{Head, LeafHead, BlockHead, LoopHead, IfHead, next}
 use Rattle.wz_machine.specs.Frames.{frame_count, local_count}
 use Rattle.wz_machine.specs.Straight.{changes_table}
-use Rattle.wz_machine.specs.Stacks.{StackParts, flat_of, stacks_term}
-use Rattle.wz_machine.specs.Turns.{own_of, JumpTurned, TurnedAnywhere}
+use Rattle.wz_machine.specs.Stacks.{StackParts, stacks_term}
+use Rattle.wz_machine.specs.Turns.{TurnedAnywhere}
 use Rattle.wz_machine.specs.declared.turn.Turn.TheVariants as turn
 use Rattle.wz_machine.specs.declared.advance.Onward.{Onward}
 use Rattle.wz_machine.specs.declared.advance.Onward.TheVariants as onward
@@ -48,20 +46,6 @@ pub record EntersNone (term new : Term) : Type 0 where
 -- It enters one: there are more frames, or more locals in them.
 abbrev pub Enters : Term → Term → Type 0
 Enters term new = (frame_count term < frame_count new) ⊎ (local_count term < local_count new)
-
--- ---- a branch to the innermost loop
-
--- the instruction in front branches to the innermost label, and so many values stay
-pub record BranchesHere (s : StackParts) (have : ℕ) : Type 0 where
-  pub own : s.top.height ≤ have
-  pub within : have ≤ length s.values
-  pub reduct : (st : State) → content_reduct st (content_of (flat_of s)) ≡ Branches 0 (own_of s have)
-  pub spares : IsFalse (head_changes_table (next (stacks_term s)))
-
--- the innermost entry begins anew, as by a branch to it with what its block has of so many values
-pub record BeginsAnew (before : StackParts) (have : ℕ) (now : StackParts) : Type 0 where
-  pub turned : JumpTurned before 0 have turn.Went now
-  pub none : EntersNone (stacks_term before) (stacks_term now)
 
 -- ---- a step that reads nothing of the state and enters no function
 

@@ -54,6 +54,7 @@ pub mod Operands
 pub mod Asks
 pub mod Calling
 pub mod Straight
+pub mod Laps
 pub mod Advance
 pub mod AtOnce
 pub mod Running

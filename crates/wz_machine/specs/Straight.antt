@@ -1,12 +1,9 @@
 -- A run of plain instructions, one after the other: so many steps that went on, within one block (section 4.4 of the Core Specification).
-use Rattle.std.specs.Prelude.{◌≡◌, ◌⊎◌, ℕ, zero, suc, List, [], ◌∷◌, Bool, true, false, IsTrue, IsFalse}
+use Rattle.std.specs.Prelude.{◌≡◌, ℕ, zero, suc, List, ◌∷◌, Bool, true, false, IsFalse}
 use Rattle.wz_code.specs.declared.instr.Instr.{Instr}
 use Rattle.wz_code.specs.declared.instr.Instr.TheVariants.{TableSet, TableInit, TableCopy, TableGrow, TableFill}
 use Rattle.wz_code.specs.BodyParts.{BodyParts}
-use Rattle.wz_machine.specs.declared.plain.Plain.TheVariants.{Went, Trapped, NoRule, Special}
-use Rattle.wz_machine.specs.declared.straight.Stop.{Stop}
-use Rattle.wz_machine.specs.declared.straight.Stop.TheVariants as stop
-use Rattle.wz_types.specs.declared.trap.TrapKind.{TrapKind}
+use Rattle.wz_machine.specs.declared.plain.Plain.TheVariants.{Went}
 use Rattle.wz_machine.specs.PlainSteps.{Site, PlainReply}
 
 -- the instructions that change a table, in whatever state
@@ -38,24 +35,3 @@ pub record GoesOn (body : BodyParts) (from to : Point) : Type 0 where
 abbrev pub RunsTo : BodyParts → ℕ → Point → Point → Type 0
 RunsTo body zero from to = to ≡ from
 RunsTo body (suc n) from to = (middle : Point) × RunsTo body n from middle × GoesOn body middle to
-
--- why an instruction doesn't plainly go on
-pub data Halts (body : BodyParts) (instr : Instr) (have : ℕ) (at : Site) : Type 0 where
-  HaltsForTable : IsTrue (changes_table instr) → Halts body instr have at
-  HaltsForSpecial : PlainReply Special body instr have at at → Halts body instr have at
-  HaltsForTrap : (kind : TrapKind) → PlainReply (Trapped kind) body instr have at at → Halts body instr have at
-  HaltsWithoutRule : PlainReply NoRule body instr have at at → Halts body instr have at
-
--- the first of the instructions that are left doesn't plainly go on
-pub record HaltsAt (body : BodyParts) (to : Point) : Type 0 where
-  pub instr : Instr
-  pub tail : List Instr
-  pub first : to.rest ≡ instr ∷ tail
-  pub halts : Halts body instr to.have to.at
-
--- where a run ends that may make so many steps: at the limit or at the block's end, before an instruction that doesn't plainly go on, or
--- for want of memory
-abbrev pub StopsAt : Stop → BodyParts → ℕ → ℕ → Point → Type 0
-StopsAt stop.Spent body limit made to = (made ≡ limit) ⊎ (to.rest ≡ [])
-StopsAt stop.Halted body limit made to = HaltsAt body to
-StopsAt stop.NoMemory body limit made to = Unit {0}

@@ -112,9 +112,6 @@ impl<'m> Stacks<'m> {
         ensures refused { OnErr result (self.new ≡ self.old) }
         ensures kept { OnErr result (store.new ≡ store.old) }
     {
-        if self.repeats() {
-            return Ok(Onward::Went);
-        }
         if self.ends() {
             return Ok(Onward::Went);
         }
@@ -148,8 +145,8 @@ impl<'m> Stacks<'m> {
     {
         let mut left = limit;
         while left > 0 {
-            let pause = self.run(left as usize, store)?;
-            left -= pause.made as u64;
+            let spare = self.run(left as usize, store)?;
+            left = spare as u64;
             if left == 0 {
                 *count = limit;
                 return Ok(false);

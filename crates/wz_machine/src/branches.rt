@@ -5,7 +5,7 @@ ghost use Rattle.std.specs.Prelude.{◌≡◌, ◌+◌, ◌≤◌, ◌<◌, [], 
 ghost use Rattle.wz_machine.specs.Kept.{entry_of, entry_kind};
 ghost use Rattle.wz_machine.specs.Stacks.{CallEntry, LoopEntry, IsStacked};
 ghost use Rattle.wz_machine.specs.Landing.{landing, ending, IsLeft, IsAgain};
-ghost use Rattle.wz_machine.specs.Advance.{BeginsAnew, StaysWithin};
+ghost use Rattle.wz_machine.specs.Advance.{StaysWithin};
 ghost use Rattle.wz_machine.specs.Turns.{Turned, TurnedAnywhere, JumpTurned, ReturnTurned, own_of};
 
 use crate::room::move_down;
@@ -97,30 +97,6 @@ impl<'m> Stacks<'m> {
         self.top = target;
         self.top.rest = again;
         self.have = target.base + count;
-    }
-
-    /// Begins the innermost entry anew, with what it has of so many values, where it is a loop that
-    /// takes none of them along.
-    #[inline(always)]
-    pub fn repeat(&mut self, have: usize) -> bool
-        requires own { self.old.top.height ≤ have }
-        requires values { have ≤ length self.old.values }
-        ensures { MatchBool result (BeginsAnew self.old have self.new) (self.new ≡ self.old) }
-    {
-        let top = self.innermost();
-        if top.arity > 0 {
-            return false;
-        }
-        if self.around() == 0 {
-            return false;
-        }
-        match top.kind {
-            Kind::Loop(again) => {
-                self.begin_again(0, top, again, have, 0);
-                true
-            }
-            Kind::Call | Kind::Block => false,
-        }
     }
 
     /// How many entries stand around the innermost one.

@@ -4,7 +4,6 @@ ghost use Rattle.std.specs.Prelude.{◌≡◌, ◌+◌, ◌-◌, ◌≤◌, ◌�
 ghost use Rattle.wz_code.specs.BodyParts.{block_at};
 ghost use Rattle.wz_code.specs.BlockRule.{IsBody};
 ghost use Rattle.wz_code.specs.Trees.{code_in, tree_of, arm_of};
-ghost use Rattle.wz_machine.specs.Advance.{BranchesHere, StaysWithin};
 ghost use Rattle.wz_machine.specs.BlockSteps.{block_type};
 ghost use Rattle.wz_machine.specs.Turns.{TurnedAnywhere, TurnedByTypes, EntryTurned, NoNumber, HasNumber, own_of};
 ghost use Rattle.wz_machine.specs.Turns.{arm_chosen};
@@ -133,63 +132,6 @@ impl<'m> Stacks<'m> {
             return Turn::Went;
         }
         self.jump(label as usize, have - 1)
-    }
-
-    /// How many values stay where a branch goes to the innermost label.
-    #[inline(always)]
-    fn br_stays(&self, label: u32, rest: &'m [Instr]) -> Option<usize>
-        requires { self.now.top.rest ≡ Instr.Br label ∷ rest.now }
-        ensures { MatchOption result (Unit {0}) (λ have. BranchesHere self.now have) }
-    {
-        let have = self.used();
-        if label > 0 {
-            return None;
-        }
-        Some(have)
-    }
-
-    /// The same of a branch on a condition, where it is taken.
-    #[inline(always)]
-    fn br_if_stays(&self, label: u32, rest: &'m [Instr]) -> Option<usize>
-        requires { self.now.top.rest ≡ Instr.BrIf label ∷ rest.now }
-        ensures { MatchOption result (Unit {0}) (λ have. BranchesHere self.now have) }
-    {
-        let have = self.used();
-        let Some(number) = self.number() else {
-            return None;
-        };
-        if label > 0 || number == 0 {
-            return None;
-        }
-        Some(have - 1)
-    }
-
-    /// How many values stay where the instruction that comes next branches to the innermost label.
-    #[inline(always)]
-    fn stays(&self) -> Option<usize>
-        ensures { MatchOption result (Unit {0}) (λ have. BranchesHere self.now have) }
-    {
-        let top = self.innermost();
-        let Some((instr, rest)) = split(top.rest) else {
-            return None;
-        };
-        match instr {
-            Instr::Br(label) => self.br_stays(label, rest),
-            Instr::BrIf(label) => self.br_if_stays(label, rest),
-            _ => None,
-        }
-    }
-
-    /// Begins the innermost loop anew, where the instruction that comes next branches to it and
-    /// takes no values along.
-    #[inline(always)]
-    pub fn repeats(&mut self) -> bool
-        ensures { MatchBool result (StaysWithin self.old self.new) (self.new ≡ self.old) }
-    {
-        match self.stays() {
-            Some(have) => self.repeat(have),
-            None => false,
-        }
     }
 
     pub fn br_table(&mut self, first: u32, count: u32, last: u32, rest: &'m [Instr]) -> Turn

@@ -25,6 +25,7 @@ mod control;
 mod counts;
 mod growing;
 mod indirect;
+mod laps;
 pub mod laws;
 mod machine;
 mod moves;

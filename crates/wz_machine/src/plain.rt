@@ -10,7 +10,7 @@ ghost use Rattle.wz_machine.specs.PlainSteps.{site, PlainReply};
 pub(crate) mod common;
 mod memories;
 mod numeric;
-mod operands;
+pub(crate) mod operands;
 mod parametric;
 mod references;
 mod tables;

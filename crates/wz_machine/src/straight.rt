@@ -4,9 +4,8 @@
 //! place and room cost nothing.
 
 ghost use Rattle.std.specs.Prelude.{◌≡◌, ◌≤◌, ◌+◌, length, drop};
-ghost use Rattle.wz_machine.specs.declared.straight.Stop.TheVariants.{Halted};
 ghost use Rattle.wz_machine.specs.PlainSteps.{site};
-ghost use Rattle.wz_machine.specs.Straight.{changes_table, point, RunsTo, StopsAt};
+ghost use Rattle.wz_machine.specs.Straight.{changes_table, point, RunsTo};
 ghost use Rattle.wz_machine.specs.Tried.{is_control as is_control_instr};
 
 use crate::plain::common::tries;
@@ -16,19 +15,9 @@ use wz_linear::Linear;
 use wz_store::Store;
 use wz_types::Value;
 
-/// Why a run ends: the limit or the block's end is reached, the next instruction doesn't plainly go
-/// on, or memory was refused to it.
-#[derive(Clone, Copy, PartialEq, Eq)]
-pub(crate) enum Stop {
-    Spent,
-    Halted,
-    NoMemory,
-}
-
 /// Where a run came to: how many instructions it made, and how many values the block has then.
 #[derive(Clone, Copy)]
 pub(crate) struct Pause {
-    pub stop: Stop,
     pub made: usize,
     pub have: usize,
 }
@@ -84,21 +73,8 @@ pub(crate) fn is_control(instr: &Instr) -> bool
     }
 }
 
-#[inline(always)]
-pub(crate) fn halted(made: usize, have: usize) -> Pause
-    ensures stop { result.stop ≡ Halted }
-    ensures made { result.made ≡ made }
-    ensures have { result.have ≡ have }
-{
-    Pause {
-        stop: Stop::Halted,
-        made,
-        have,
-    }
-}
-
-/// Runs at most so many plain instructions of what is left of a block. Behind its values there is
-/// room for one by each of them.
+/// Runs at most so many plain instructions of what is left of a block, up to one that doesn't
+/// plainly go on or changes a table. Behind its values there is room for one by each of them.
 #[inline(always)]
 pub(crate) fn straight<M: Linear>(
     body: &Body,
@@ -115,8 +91,6 @@ pub(crate) fn straight<M: Linear>(
         (point (drop result.made code.now) result.have (site locals.new own.new store.new)) }
     ensures limited { result.made ≤ limit }
     ensures within { result.made ≤ length code.now }
-    ensures stopped { StopsAt result.stop body.now limit result.made
-        (point (drop result.made code.now) result.have (site locals.new own.new store.new)) }
     ensures room { result.have + length code.now ≤ length own.new + result.made }
 {
     let started = if limit < code.len() {
@@ -133,28 +107,21 @@ pub(crate) fn straight<M: Linear>(
         }
         let made = started - rest.len();
         if is_control(instr) {
-            return halted(made, now);
+            return Pause { made, have: now };
         }
         if is_table_change(instr) {
-            return halted(made, now);
+            return Pause { made, have: now };
         }
         match run_plain(body, instr, locals, own, now, store) {
             Ok(Plain::Went(next)) => now = next,
-            Ok(Plain::Trapped(_)) => return halted(made, now),
-            Ok(Plain::NoRule) => return halted(made, now),
-            Ok(Plain::Special) => return halted(made, now),
-            Err(_) => {
-                return Pause {
-                    stop: Stop::NoMemory,
-                    made,
-                    have: now,
-                };
-            }
+            Ok(Plain::Trapped(_)) => return Pause { made, have: now },
+            Ok(Plain::NoRule) => return Pause { made, have: now },
+            Ok(Plain::Special) => return Pause { made, have: now },
+            Err(_) => return Pause { made, have: now },
         }
         rest = tail;
     }
     Pause {
-        stop: Stop::Spent,
         made: started,
         have: now,
     }

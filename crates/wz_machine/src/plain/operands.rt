@@ -20,7 +20,7 @@ pub(super) fn value_on(own: &[Value], have: usize) -> Option<Value>
 
 /// The same, where it is an i32.
 #[inline(always)]
-pub(super) fn number_on(own: &[Value], have: usize) -> Option<u32>
+pub(crate) fn number_on(own: &[Value], have: usize) -> Option<u32>
     requires { have ≤ length own.now }
     ensures { MatchOption result (number_on_top (used have own.now) ≡ None)
         (λ number. HasNumber number have own.now) }

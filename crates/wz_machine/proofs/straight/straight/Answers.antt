@@ -1,8 +1,8 @@
-use Rattle.std.proofs.Common.{◌≡◌, ◌∷◌, Bool, true, false, IsFalse, length, refl, subst}
+use Rattle.std.proofs.Common.{◌≡◌, ◌∷◌, Bool, true, false, IsFalse, length, subst}
 use Rattle.wz_machine.specs.PlainSteps.{site}
-use Rattle.wz_machine.specs.Straight.{changes_table, HaltsForTrap}
+use Rattle.wz_machine.specs.Straight.{changes_table}
 use Rattle.wz_machine.specs.Tried.{PlainTried}
-use Rattle.wz_machine.proofs.StraightLemmas.{IsRunning, goes_on, halts_at}
+use Rattle.wz_machine.proofs.StraightLemmas.{IsRunning, goes_on}
 use Rattle.wz_machine.proofs.TriedLemmas.{still_running}
 use Rattle.wz_machine.proofs.straight.straight.Goals as goal
 
@@ -35,20 +35,3 @@ loop-instr-preserved g c =
     goes_on c.args.body.now c.args.code.now c.loop-instr.rest.now c.in-Some.tail.now c.in-Some.instr.now c.args.limit c.if-limit-code.started c.args.have
     c.tries.new.have c.in-Ok-Went.next (length c.args.own.now) (site c.args.locals.now c.args.own.now c.args.store.now) after
     (site c.run_plain.new.locals c.run_plain.new.own c.run_plain.new.store) running is spares went.1 went
-
-pub returns-in-Ok-Trapped-clause-stopped : goal.returns-in-Ok-Trapped-clause-stopped
-returns-in-Ok-Trapped-clause-stopped g c =
-    let trapped = rw c.in-Ok-Trapped.field-0-is at c.in-Ok-Trapped.ensures.reply in
-    let is : c.loop-instr.rest.now ≡ c.in-Some.instr.now ∷ c.in-Some.tail.now = c.in-Some.ensures.cases.0 in
-    let before = site c.loop-instr.locals c.loop-instr.own c.loop-instr.store in
-    let after = site c.tries.new.locals c.tries.new.own c.tries.new.store in
-    let kept : PlainTried false c.in-Some.instr.now c.loop-instr.now c.tries.new.have before after =
-    subst (λ (b : Bool). PlainTried b c.in-Some.instr.now c.loop-instr.now c.tries.new.have before after) c.if-tries.false c.tries.ensures.tried in
-    let running : IsRunning c.args.body.now c.args.code.now c.loop-instr.rest.now c.args.limit c.if-limit-code.started c.args.have c.tries.new.have (length c.args.own.now)
-    (site c.args.locals.now c.args.own.now c.args.store.now) after =
-    still_running c.args.body.now c.args.code.now c.loop-instr.rest.now c.args.limit c.if-limit-code.started c.args.have c.loop-instr.now c.tries.new.have
-    (length c.args.own.now) (site c.args.locals.now c.args.own.now c.args.store.now) before after c.loop-instr.invariant kept.0 kept.1 in
-    rw (c.halted-in-Ok-Trapped.ensures.stop, c.halted-in-Ok-Trapped.ensures.made, c.halted-in-Ok-Trapped.ensures.have)
-    (halts_at c.args.body.now c.args.code.now c.loop-instr.rest.now c.in-Some.tail.now c.in-Some.instr.now c.args.limit c.if-limit-code.started c.args.have
-    c.tries.new.have (length c.args.own.now) (site c.args.locals.now c.args.own.now c.args.store.now) after
-    (site c.run_plain.new.locals c.run_plain.new.own c.run_plain.new.store) running is trapped.2 (HaltsForTrap c.in-Ok-Trapped.field-0-0 (trapped.0, trapped.1, refl)))
