@@ -78,7 +78,7 @@ impl<'m> Stacks<'m> {
         };
         let halt = run_in(&self.top, limit, places, &mut self.values, self.have, store);
         self.top.rest = halt.rest;
-        self.have = places.height + halt.have;
+        self.have = self.top.height + halt.have;
         Ok(halt.left)
     }
 }
