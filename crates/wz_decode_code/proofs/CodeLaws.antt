@@ -9,7 +9,7 @@ use Rattle.wz_code.proofs.TreeLemmas.{joined_end, joined_assoc}
 use Rattle.wz_decode_code.specs.Types.{IsShape}
 use Rattle.wz_decode_code.specs.Code.{Behind, IsSecond, IsCode, IsExpression}
 use Rattle.wz_decode_code.specs.Tokens.{Symbol, Single, BeginsBlock, BeginsLoop, BeginsIf, Else, Ends, IsSymbol, symbol_at}
-use Rattle.wz_decode_code.specs.Reading.{BlockPart, OfBlock, OfLoop, OfFirst, OfSecond, Around, node, Next, On, after_symbol, go_on, rest_at, reads, expression_at}
+use Rattle.wz_decode_code.specs.Reading.{BlockPart, OfBlock, OfLoop, OfFirst, OfSecond, Around, node, AfterSymbol, On, after_symbol, go_on, rest_at, reads, expression_at}
 use Rattle.wz_decode_code.proofs.SymbolLaws.{symbol_exact}
 use Rattle.wz_decode_code.proofs.ReadsLemmas.{reads_step}
 
@@ -20,7 +20,7 @@ symbol_on : (text rest : List ℕ) (t : Symbol) (here now : Code) (around outsid
     → reads (text ++ rest) here around ≡ reads rest now outside
 symbol_on text rest t here now around outside h e =
     reads_step (text ++ rest) t rest here around (symbol_exact.again text t rest h)
-    ∙ ap (λ (n : Next). go_on (λ h a. reads rest h a) rest n) e
+    ∙ ap (λ (n : AfterSymbol). go_on (λ h a. reads rest h a) rest n) e
 
 -- a block whose opcode and shape have been read: its instructions, its end, and what follows it
 held_again : (part : BlockPart) (shape : Shape) (inner more : Code) (text behind rest : List ℕ) (here : Code) (outside : List Around) → IsCode text inner → IsCode behind more

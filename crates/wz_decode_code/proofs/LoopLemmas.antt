@@ -12,7 +12,7 @@ use Rattle.wz_code.specs.BlockRule.{IsBuilding}
 use Rattle.wz_decode_code.specs.declared.token.Token.{Token}
 use Rattle.wz_decode_code.specs.declared.blocks.Open.{Open}
 use Rattle.wz_decode_code.specs.Tokens.{symbol_at}
-use Rattle.wz_decode_code.specs.Reading.{Around, Next, On, Done, Refused, after_symbol, go_on, reads, expression_at}
+use Rattle.wz_decode_code.specs.Reading.{Around, AfterSymbol, On, Complete, Misplaced, after_symbol, go_on, reads, expression_at}
 use Rattle.wz_decode_code.specs.Opened.{arounds, unnamed_blocks, IsReading, seen_in}
 use Rattle.wz_decode_code.specs.Pools.{SymbolRead}
 use Rattle.wz_decode_code.specs.Code.{IsExpression}
@@ -48,16 +48,16 @@ stepping bytes rest old new token here opens whole s reading so_far =
 pub goes_on : (body : BodyParts) (here : ℕ) (opens : List Open) (token : Token) (rest : List ℕ) (whole : Option (Code × List ℕ)) (now : Code) (outside : List Around)
     → Stepping body here opens token rest whole
     → after_symbol (seen_in body token) (tree_of body here) (arounds body opens) ≡ On now outside → reads rest now outside ≡ whole
-goes_on body here opens token rest whole now outside s e = ap (λ (n : Next). go_on (λ h a. reads rest h a) rest n) (sym e) ∙ s.next
+goes_on body here opens token rest whole now outside s e = ap (λ (n : AfterSymbol). go_on (λ h a. reads rest h a) rest n) (sym e) ∙ s.next
 
 pub is_done : (body : BodyParts) (here : ℕ) (opens : List Open) (token : Token) (rest : List ℕ) (whole : Option (Code × List ℕ)) (code : Code)
     → Stepping body here opens token rest whole
-    → after_symbol (seen_in body token) (tree_of body here) (arounds body opens) ≡ Done code → whole ≡ Some (code, rest)
-is_done body here opens token rest whole code s e = sym s.next ∙ ap (λ (n : Next). go_on (λ h a. reads rest h a) rest n) e
+    → after_symbol (seen_in body token) (tree_of body here) (arounds body opens) ≡ Complete code → whole ≡ Some (code, rest)
+is_done body here opens token rest whole code s e = sym s.next ∙ ap (λ (n : AfterSymbol). go_on (λ h a. reads rest h a) rest n) e
 
 pub is_refused : (body : BodyParts) (here : ℕ) (opens : List Open) (token : Token) (rest : List ℕ) (whole : Option (Code × List ℕ)) → Stepping body here opens token rest whole
-    → after_symbol (seen_in body token) (tree_of body here) (arounds body opens) ≡ Refused → whole ≡ None
-is_refused body here opens token rest whole s e = sym s.next ∙ ap (λ (n : Next). go_on (λ h a. reads rest h a) rest n) e
+    → after_symbol (seen_in body token) (tree_of body here) (arounds body opens) ≡ Misplaced → whole ≡ None
+is_refused body here opens token rest whole s e = sym s.next ∙ ap (λ (n : AfterSymbol). go_on (λ h a. reads rest h a) rest n) e
 
 pub no_symbol : (bytes : List ℕ) (here : Code) (around : List Around) (whole : Option (Code × List ℕ)) → symbol_at bytes ≡ None → reads bytes here around ≡ whole → whole ≡ None
 no_symbol bytes here around whole none so_far = sym so_far ∙ reads_none bytes here around none

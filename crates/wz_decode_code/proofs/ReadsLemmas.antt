@@ -3,14 +3,14 @@ use Rattle.std.proofs.Common.{◌≡◌, ℕ, zero, suc, ◌≤◌, List, [], �
 use Rattle.wz_bytes.specs.Reading.{◌>>=◌}
 use Rattle.wz_code.specs.Trees.{Code}
 use Rattle.wz_decode_code.specs.Tokens.{Symbol, symbol_at}
-use Rattle.wz_decode_code.specs.Reading.{Around, Next, On, Done, Refused, after_symbol, go_on, rest_at, reads}
+use Rattle.wz_decode_code.specs.Reading.{Around, AfterSymbol, On, Complete, Misplaced, after_symbol, go_on, rest_at, reads}
 use Rattle.wz_decode_code.proofs.SymbolLaws.{symbol_shorter}
 
-go_same : (m n : Code → List Around → Option (Code × List ℕ)) (bytes : List ℕ) (next : Next) → ((here : Code) (around : List Around) → m here around ≡ n here around)
+go_same : (m n : Code → List Around → Option (Code × List ℕ)) (bytes : List ℕ) (next : AfterSymbol) → ((here : Code) (around : List Around) → m here around ≡ n here around)
     → go_on m bytes next ≡ go_on n bytes next
 go_same m n bytes (On here around) h = h here around
-go_same m n bytes (Done code) h = refl
-go_same m n bytes Refused h = refl
+go_same m n bytes (Complete code) h = refl
+go_same m n bytes Misplaced h = refl
 
 bind_same : {A B : Type 0} (r : Option A) (f g : A → Option B) → ((x : A) → r ≡ Some x → f x ≡ g x) → (r >>= f) ≡ (r >>= g)
 bind_same None f g h = refl

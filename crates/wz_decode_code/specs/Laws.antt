@@ -10,10 +10,10 @@ use Rattle.wz_decode_code.specs.Entry.{CodeEntry, IsEntry}
 use Rattle.wz_decode_code.specs.Reading.{expression_at, entry_at}
 
 -- what a reading of the front gave, as a function of the bytes
-abbrev pub Gives : {X Y : Type 0} → (Y → X) → Result Y CodeFault → Place → Option (X × List ℕ) → Type 0
-Gives view (Ok y) new read = read ≡ Some (view y, new.left)
-Gives view (Err Bad) new read = read ≡ None
-Gives view (Err NoMemory) new read = Unit {0}
+abbrev pub GivesRead : {X Y : Type 0} → (Y → X) → Result Y CodeFault → Place → Option (X × List ℕ) → Type 0
+GivesRead view (Ok y) new read = read ≡ Some (view y, new.left)
+GivesRead view (Err Bad) new read = read ≡ None
+GivesRead view (Err NoMemory) new read = Unit {0}
 
 -- the bytes as a whole spell none of this
 abbrev pub SpellsNone : {X : Type 0} → (List ℕ → X → Type 0) → List ℕ → Type 0

@@ -12,7 +12,7 @@ use Rattle.wz_decode_code.specs.declared.blocks.Kind.{Kind}
 use Rattle.wz_decode_code.specs.declared.blocks.Kind.TheVariants as kind
 use Rattle.wz_decode_code.specs.declared.blocks.Open.{Open}
 use Rattle.wz_decode_code.specs.Tokens.{Symbol, seen}
-use Rattle.wz_decode_code.specs.Reading.{BlockPart, OfBlock, OfLoop, OfFirst, OfSecond, Around, Next, On, Done, after_symbol}
+use Rattle.wz_decode_code.specs.Reading.{BlockPart, OfBlock, OfLoop, OfFirst, OfSecond, Around, AfterSymbol, On, Complete, after_symbol}
 
 abbrev pub part_of : BodyParts → Kind → BlockPart
 part_of body kind.Block = OfBlock
@@ -74,13 +74,13 @@ TokenFits body (token.Plain instr) = NamesNone instr × InPools body.labels body
 TokenFits body token = Unit {0}
 
 -- what the token makes of what was read, where `here` is the innermost open block
-abbrev pub next_of : BodyParts → ℕ → List Open → Token → Next
+abbrev pub next_of : BodyParts → ℕ → List Open → Token → AfterSymbol
 next_of body here opens token = after_symbol (seen_in body token) (tree_of body here) (arounds body opens)
 
 -- what is read now is what the token makes of what was read before
-abbrev pub Follows : Next → Option ℕ → BodyParts → List Open → Type 0
+abbrev pub Follows : AfterSymbol → Option ℕ → BodyParts → List Open → Type 0
 Follows next (Some here) body opens = IsReading body here opens × (next ≡ On (tree_of body here) (arounds body opens))
-Follows next None body opens = IsReading body 0 [] × (next ≡ Done (tree_of body 0))
+Follows next None body opens = IsReading body 0 [] × (next ≡ Complete (tree_of body 0))
 
 -- how many items such a step may have added
 abbrev pub items_of_step : Option ℕ → ℕ

@@ -28,26 +28,26 @@ node OfFirst shape inner = InIf shape inner End End
 node (OfSecond first) shape inner = InIf shape first inner End
 
 -- what a symbol makes of the code so far within open blocks, the innermost first
-pub data Next : Type 0 where
-  On : Code → List Around → Next
-  Done : Code → Next
-  Refused : Next
+pub data AfterSymbol : Type 0 where
+  On : Code → List Around → AfterSymbol
+  Complete : Code → AfterSymbol
+  Misplaced : AfterSymbol
 
-abbrev pub after_else : Code → List Around → Next
-after_else here [] = Refused
+abbrev pub after_else : Code → List Around → AfterSymbol
+after_else here [] = Misplaced
 after_else here (o ∷ around) = second o.part o here around where
-  second : BlockPart → Around → Code → List Around → Next
+  second : BlockPart → Around → Code → List Around → AfterSymbol
   second OfFirst o here around = On End (record { part = OfSecond here; shape = o.shape; before = o.before } ∷ around)
-  second part o here around = Refused
+  second part o here around = Misplaced
 
-abbrev pub after_end : Code → List Around → Next
-after_end here [] = Done here
+abbrev pub after_end : Code → List Around → AfterSymbol
+after_end here [] = Complete here
 after_end here (o ∷ around) = On (joined o.before (node o.part o.shape here)) around
 
-abbrev pub opened : BlockPart → Shape → Code → List Around → Next
+abbrev pub opened : BlockPart → Shape → Code → List Around → AfterSymbol
 opened part shape here around = On End (record { part = part; shape = shape; before = here } ∷ around)
 
-abbrev pub after_symbol : Symbol → Code → List Around → Next
+abbrev pub after_symbol : Symbol → Code → List Around → AfterSymbol
 after_symbol (Single leaf) here around = On (joined here (Then leaf End)) around
 after_symbol (BeginsBlock shape) here around = opened OfBlock shape here around
 after_symbol (BeginsLoop shape) here around = opened OfLoop shape here around
@@ -55,10 +55,10 @@ after_symbol (BeginsIf shape) here around = opened OfFirst shape here around
 after_symbol Else here around = after_else here around
 after_symbol Ends here around = after_end here around
 
-abbrev pub go_on : (Code → List Around → Option (Code × List ℕ)) → List ℕ → Next → Option (Code × List ℕ)
+abbrev pub go_on : (Code → List Around → Option (Code × List ℕ)) → List ℕ → AfterSymbol → Option (Code × List ℕ)
 go_on more bytes (On here around) = more here around
-go_on more bytes (Done code) = Some (code, bytes)
-go_on more bytes Refused = None
+go_on more bytes (Complete code) = Some (code, bytes)
+go_on more bytes Misplaced = None
 
 -- the rest of the expression, in at most so many symbols
 unfoldable pub rest_at : ℕ → List ℕ → Code → List Around → Option (Code × List ℕ)

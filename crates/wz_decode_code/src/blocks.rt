@@ -3,7 +3,7 @@
 ghost use Rattle.std.specs.Prelude.{◌≡◌, ◌<◌, ◌≤◌, ◌+◌, ◌-◌, ◌^◌, [], ◌∷◌, ◌++◌, length, reverse, IfOk, OnOk, IsErrOf};
 ghost use Rattle.wz_code.specs.BodyParts.{with_block, item_count};
 ghost use Rattle.wz_decode_code.specs.declared.fault.CodeFault.TheVariants.{Bad};
-ghost use Rattle.wz_decode_code.specs.Reading.{Refused};
+ghost use Rattle.wz_decode_code.specs.Reading.{Misplaced};
 ghost use Rattle.wz_decode_code.specs.Opened.{node_of, next_of, TokenFits, IsReading, Follows, items_of_step};
 
 use crate::fault::CodeFault;
@@ -87,7 +87,7 @@ pub(crate) fn step(
     ensures ok { let next = next_of builder.old here (reverse opens.old.items) token in
         IfOk result (λ to. Follows next to builder.new (reverse opens.new.items)) }
     ensures bad { let next = next_of builder.old here (reverse opens.old.items) token in
-        IsErrOf result Bad → next ≡ Refused }
+        IsErrOf result Bad → next ≡ Misplaced }
     ensures room { let was = item_count builder.old in
         IfOk result (λ to. item_count builder.new ≤ was + items_of_step to) }
     ensures locals { OnOk result (builder.new.locals ≡ builder.old.locals) }

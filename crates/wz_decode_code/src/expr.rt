@@ -9,7 +9,7 @@ ghost use Rattle.wz_code.specs.BlockRule.{IsBuilding};
 ghost use Rattle.wz_decode_code.specs.declared.fault.CodeFault.TheVariants.{Bad};
 ghost use Rattle.wz_decode_code.specs.Code.{IsExpression};
 ghost use Rattle.wz_decode_code.specs.Reading.{expression_at};
-ghost use Rattle.wz_decode_code.specs.Laws.{Gives};
+ghost use Rattle.wz_decode_code.specs.Laws.{GivesRead};
 
 use crate::blocks::step;
 use crate::fault::CodeFault;
@@ -28,7 +28,7 @@ pub fn read_expr(alloc: Global, cursor: &mut Cursor<'_>) -> Result<Body, CodeFau
     ensures stays { OnErr result (cursor.new ≡ cursor.old) }
 
     // The same as an equation, for proofs about longer readings.
-    ensures exact { Gives (λ b. tree_of b 0) result cursor.new (expression_at cursor.old.left) }
+    ensures exact { GivesRead (λ b. tree_of b 0) result cursor.new (expression_at cursor.old.left) }
 {
     let left = cursor.left();
     let mut ahead = Cursor::new(left);
