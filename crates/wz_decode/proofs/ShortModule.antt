@@ -14,7 +14,7 @@ use Rattle.wz_module.specs.Datas.{PassiveData, ActiveData}
 use Rattle.wz_module.specs.Module.{Module}
 use Rattle.wz_module.specs.ShortLists.{HasShortSides, HasShortNames, HasShortLists}
 use Rattle.wz_decode_code.specs.Instructions.{IsU32}
-use Rattle.wz_decode_sections.specs.Productions.{IsFlag}
+use Rattle.wz_decode_sections.specs.Productions.{IsSegmentFlag}
 use Rattle.wz_decode_sections.specs.FunctionTypes.{IsResultType, function_type_from, IsFuncType}
 use Rattle.wz_decode_sections.specs.Limits.{IsMemType, IsTableType}
 use Rattle.wz_decode_sections.specs.ImportSection.{IsImportKind, import_from, IsImport}
@@ -53,19 +53,20 @@ export_name_within : Measures (λ t x. IsExport t x) (λ x. length x.name)
 export_name_within text x h = made_within (λ x. export_from x) _ (λ x. length x.name) (first_within IsName (λ t x. IsExportTarget t x) (λ name. length name) name_within) text x h
 
 elem_within : Measures (λ t x. IsElem t x) (λ x. length x.init)
-elem_within text x (inl h) = production_within IsFlag 0 (λ x. elem_in_first x) _ (λ x. length x.init) (offset_within AreFunctions (λ init. length init) functions_within) text x h
-elem_within text x (inr (inl h)) = production_within IsFlag 1 (λ x. elem_from PassiveElem x) _ (λ x. length x.init) function_list_within text x h
-elem_within text x (inr (inr (inl h))) = production_within IsFlag 2 (λ x. elem_in_table x) _ (λ x. length x.init) (place_within IsFunctionList (λ x. length x.1) function_list_within) text x h
-elem_within text x (inr (inr (inr (inl h)))) = production_within IsFlag 3 (λ x. elem_from DeclarativeElem x) _ (λ x. length x.init) function_list_within text x h
-elem_within text x (inr (inr (inr (inr (inl h))))) = production_within IsFlag 4 (λ x. elem_in_first x) _ (λ x. length x.init) (offset_within AreExpressions (λ init. length init) expressions_within) text x h
-elem_within text x (inr (inr (inr (inr (inr (inl h)))))) = production_within IsFlag 5 (λ x. elem_from PassiveElem x) _ (λ x. length x.init) expression_list_within text x h
-elem_within text x (inr (inr (inr (inr (inr (inr (inl h))))))) = production_within IsFlag 6 (λ x. elem_in_table x) _ (λ x. length x.init) (place_within IsExpressionList (λ x. length x.1) expression_list_within) text x h
-elem_within text x (inr (inr (inr (inr (inr (inr (inr h))))))) = production_within IsFlag 7 (λ x. elem_from DeclarativeElem x) _ (λ x. length x.init) expression_list_within text x h
+elem_within text x (inl h) =
+    production_within IsSegmentFlag 0 (λ x. elem_in_first x) _ (λ x. length x.init) (offset_within AreFunctions (λ init. length init) functions_within) text x h
+elem_within text x (inr (inl h)) = production_within IsSegmentFlag 1 (λ x. elem_from PassiveElem x) _ (λ x. length x.init) function_list_within text x h
+elem_within text x (inr (inr (inl h))) = production_within IsSegmentFlag 2 (λ x. elem_in_table x) _ (λ x. length x.init) (place_within IsFunctionList (λ x. length x.1) function_list_within) text x h
+elem_within text x (inr (inr (inr (inl h)))) = production_within IsSegmentFlag 3 (λ x. elem_from DeclarativeElem x) _ (λ x. length x.init) function_list_within text x h
+elem_within text x (inr (inr (inr (inr (inl h))))) = production_within IsSegmentFlag 4 (λ x. elem_in_first x) _ (λ x. length x.init) (offset_within AreExpressions (λ init. length init) expressions_within) text x h
+elem_within text x (inr (inr (inr (inr (inr (inl h)))))) = production_within IsSegmentFlag 5 (λ x. elem_from PassiveElem x) _ (λ x. length x.init) expression_list_within text x h
+elem_within text x (inr (inr (inr (inr (inr (inr (inl h))))))) = production_within IsSegmentFlag 6 (λ x. elem_in_table x) _ (λ x. length x.init) (place_within IsExpressionList (λ x. length x.1) expression_list_within) text x h
+elem_within text x (inr (inr (inr (inr (inr (inr (inr h))))))) = production_within IsSegmentFlag 7 (λ x. elem_from DeclarativeElem x) _ (λ x. length x.init) expression_list_within text x h
 
 data_within : Measures (λ t x. IsData t x) (λ x. length x.bytes)
-data_within text x (inl h) = production_within IsFlag 0 (λ x. data_from (ActiveData 0 x.0) x.1) _ (λ x. length x.bytes) (offset_within IsBytes (λ b. length b) bytes_within) text x h
-data_within text x (inr (inl h)) = production_within IsFlag 1 (λ b. data_from PassiveData b) _ (λ x. length x.bytes) bytes_within text x h
-data_within text x (inr (inr h)) = production_within IsFlag 2 (λ x. data_from (ActiveData x.0 x.1.0) x.1.1) _ (λ x. length x.bytes) (place_within IsBytes (λ b. length b) bytes_within) text x h
+data_within text x (inl h) = production_within IsSegmentFlag 0 (λ x. data_from (ActiveData 0 x.0) x.1) _ (λ x. length x.bytes) (offset_within IsBytes (λ b. length b) bytes_within) text x h
+data_within text x (inr (inl h)) = production_within IsSegmentFlag 1 (λ b. data_from PassiveData b) _ (λ x. length x.bytes) bytes_within text x h
+data_within text x (inr (inr h)) = production_within IsSegmentFlag 2 (λ x. data_from (ActiveData x.0 x.1.0) x.1.1) _ (λ x. length x.bytes) (place_within IsBytes (λ b. length b) bytes_within) text x h
 
 payload_measured : Measures (λ t s. IsSection t s) (λ s. length s.payload)
 payload_measured text s h = made_within (λ x. section_from x) _ (λ s. length s.payload) (second_within IsByte IsBytes (λ b. length b) bytes_within) text s h

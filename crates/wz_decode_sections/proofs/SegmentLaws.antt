@@ -17,7 +17,7 @@ use Rattle.wz_decode_code.specs.Code.{IsExpression}
 use Rattle.wz_decode_code.specs.Reading.{expression_at}
 use Rattle.wz_decode_code.proofs.TypeLaws.{kind_exact}
 use Rattle.wz_decode_code.proofs.CodeLaws.{expression_exact}
-use Rattle.wz_decode_sections.specs.Productions.{IsFlag}
+use Rattle.wz_decode_sections.specs.Productions.{IsSegmentFlag}
 use Rattle.wz_decode_sections.specs.Offsets.{AtOffset, offset_at, AtPlace, place_at}
 use Rattle.wz_decode_sections.specs.ElementSection.{IsElemKind, elem_kind_at, AreFunctions, functions_at, AreExpressions, expressions_at, IsFunctionList, function_list_at, IsExpressionList, expression_list_at, elem_from, elem_in_first, elem_in_table, IsElem, elem_rows, elem_at}
 use Rattle.wz_decode_sections.specs.DataSection.{data_from, IsData, data_rows, data_at}
@@ -69,38 +69,39 @@ all_in_first_exact = offset_exact (λ t init. AreExpressions t init) (λ b. expr
 all_in_table_exact : IsExact (λ t x. AtPlace (λ t x. IsExpressionList t x) t x) (λ b. place_at (λ b. expression_list_at b) b)
 all_in_table_exact = place_exact (λ t x. IsExpressionList t x) (λ b. expression_list_at b) expression_list_exact
 
-elem_found : (flag : ℕ) (bytes : List ℕ) → FindsBehind (λ t x. IsElem t x) (λ t n. IsFlag t n) flag bytes (elem_rows flag bytes)
+elem_found : (flag : ℕ) (bytes : List ℕ) → FindsBehind (λ t x. IsElem t x) (λ t n. IsSegmentFlag t n) flag bytes (elem_rows flag bytes)
 elem_found flag bytes =
-    row_or (λ t x. IsElem t x) (λ t n. IsFlag t n) flag bytes (flag == 0) _ _
-    (row_found (λ t x. IsElem t x) (λ t n. IsFlag t n) 0 (λ x. elem_in_first x) _ _ in_first_exact (λ t x h. inl h) flag bytes)
-    (row_or (λ t x. IsElem t x) (λ t n. IsFlag t n) flag bytes (flag == 1) _ _
-    (row_found (λ t x. IsElem t x) (λ t n. IsFlag t n) 1 (λ x. elem_from PassiveElem x) _ _ function_list_exact (λ t x h. inr (inl h)) flag bytes)
-    (row_or (λ t x. IsElem t x) (λ t n. IsFlag t n) flag bytes (flag == 2) _ _
-    (row_found (λ t x. IsElem t x) (λ t n. IsFlag t n) 2 (λ x. elem_in_table x) _ _ in_table_exact (λ t x h. inr (inr (inl h))) flag bytes)
-    (row_or (λ t x. IsElem t x) (λ t n. IsFlag t n) flag bytes (flag == 3) _ _
-    (row_found (λ t x. IsElem t x) (λ t n. IsFlag t n) 3 (λ x. elem_from DeclarativeElem x) _ _ function_list_exact (λ t x h. inr (inr (inr (inl h)))) flag bytes)
-    (row_or (λ t x. IsElem t x) (λ t n. IsFlag t n) flag bytes (flag == 4) _ _
-    (row_found (λ t x. IsElem t x) (λ t n. IsFlag t n) 4 (λ x. elem_in_first x) _ _ all_in_first_exact (λ t x h. inr (inr (inr (inr (inl h))))) flag bytes)
-    (row_or (λ t x. IsElem t x) (λ t n. IsFlag t n) flag bytes (flag == 5) _ _
-    (row_found (λ t x. IsElem t x) (λ t n. IsFlag t n) 5 (λ x. elem_from PassiveElem x) _ _ expression_list_exact (λ t x h. inr (inr (inr (inr (inr (inl h)))))) flag bytes)
-    (row_or (λ t x. IsElem t x) (λ t n. IsFlag t n) flag bytes (flag == 6) _ _
-    (row_found (λ t x. IsElem t x) (λ t n. IsFlag t n) 6 (λ x. elem_in_table x) _ _ all_in_table_exact (λ t x h. inr (inr (inr (inr (inr (inr (inl h))))))) flag bytes)
-    (row_or (λ t x. IsElem t x) (λ t n. IsFlag t n) flag bytes (flag == 7) _ _
-    (row_found (λ t x. IsElem t x) (λ t n. IsFlag t n) 7 (λ x. elem_from DeclarativeElem x) _ _ expression_list_exact (λ t x h. inr (inr (inr (inr (inr (inr (inr h))))))) flag bytes)
-    (no_row (λ t x. IsElem t x) (λ t n. IsFlag t n) flag bytes))))))))
+    row_or (λ t x. IsElem t x) (λ t n. IsSegmentFlag t n) flag bytes (flag == 0) _ _
+    (row_found (λ t x. IsElem t x) (λ t n. IsSegmentFlag t n) 0 (λ x. elem_in_first x) _ _ in_first_exact (λ t x h. inl h) flag bytes)
+    (row_or (λ t x. IsElem t x) (λ t n. IsSegmentFlag t n) flag bytes (flag == 1) _ _
+    (row_found (λ t x. IsElem t x) (λ t n. IsSegmentFlag t n) 1 (λ x. elem_from PassiveElem x) _ _ function_list_exact (λ t x h. inr (inl h)) flag bytes)
+    (row_or (λ t x. IsElem t x) (λ t n. IsSegmentFlag t n) flag bytes (flag == 2) _ _
+    (row_found (λ t x. IsElem t x) (λ t n. IsSegmentFlag t n) 2 (λ x. elem_in_table x) _ _ in_table_exact (λ t x h. inr (inr (inl h))) flag bytes)
+    (row_or (λ t x. IsElem t x) (λ t n. IsSegmentFlag t n) flag bytes (flag == 3) _ _
+    (row_found (λ t x. IsElem t x) (λ t n. IsSegmentFlag t n) 3 (λ x. elem_from DeclarativeElem x) _ _ function_list_exact (λ t x h. inr (inr (inr (inl h)))) flag bytes)
+    (row_or (λ t x. IsElem t x) (λ t n. IsSegmentFlag t n) flag bytes (flag == 4) _ _
+    (row_found (λ t x. IsElem t x) (λ t n. IsSegmentFlag t n) 4 (λ x. elem_in_first x) _ _ all_in_first_exact (λ t x h. inr (inr (inr (inr (inl h))))) flag bytes)
+    (row_or (λ t x. IsElem t x) (λ t n. IsSegmentFlag t n) flag bytes (flag == 5) _ _
+    (row_found (λ t x. IsElem t x) (λ t n. IsSegmentFlag t n) 5 (λ x. elem_from PassiveElem x) _ _ expression_list_exact (λ t x h. inr (inr (inr (inr (inr (inl h)))))) flag bytes)
+    (row_or (λ t x. IsElem t x) (λ t n. IsSegmentFlag t n) flag bytes (flag == 6) _ _
+    (row_found (λ t x. IsElem t x) (λ t n. IsSegmentFlag t n) 6 (λ x. elem_in_table x) _ _ all_in_table_exact (λ t x h. inr (inr (inr (inr (inr (inr (inl h))))))) flag bytes)
+    (row_or (λ t x. IsElem t x) (λ t n. IsSegmentFlag t n) flag bytes (flag == 7) _ _
+    (row_found (λ t x. IsElem t x) (λ t n. IsSegmentFlag t n) 7 (λ x. elem_from DeclarativeElem x) _ _ expression_list_exact (λ t x h. inr (inr (inr (inr (inr (inr (inr h))))))) flag bytes)
+    (no_row (λ t x. IsElem t x) (λ t n. IsSegmentFlag t n) flag bytes))))))))
 
-pub elem_again : (text : List ℕ) (x : Elem) → IsElem text x → HasRow (λ t n. IsFlag t n) (λ flag b. elem_rows flag b) text x
-elem_again text x (inl h) = row_again (λ t n. IsFlag t n) (λ flag b. elem_rows flag b) 0 (λ x. elem_in_first x) _ _ in_first_exact (λ b. refl) text x h
-elem_again text x (inr (inl h)) = row_again (λ t n. IsFlag t n) (λ flag b. elem_rows flag b) 1 (λ x. elem_from PassiveElem x) _ _ function_list_exact (λ b. refl) text x h
-elem_again text x (inr (inr (inl h))) = row_again (λ t n. IsFlag t n) (λ flag b. elem_rows flag b) 2 (λ x. elem_in_table x) _ _ in_table_exact (λ b. refl) text x h
-elem_again text x (inr (inr (inr (inl h)))) = row_again (λ t n. IsFlag t n) (λ flag b. elem_rows flag b) 3 (λ x. elem_from DeclarativeElem x) _ _ function_list_exact (λ b. refl) text x h
-elem_again text x (inr (inr (inr (inr (inl h))))) = row_again (λ t n. IsFlag t n) (λ flag b. elem_rows flag b) 4 (λ x. elem_in_first x) _ _ all_in_first_exact (λ b. refl) text x h
-elem_again text x (inr (inr (inr (inr (inr (inl h)))))) = row_again (λ t n. IsFlag t n) (λ flag b. elem_rows flag b) 5 (λ x. elem_from PassiveElem x) _ _ expression_list_exact (λ b. refl) text x h
-elem_again text x (inr (inr (inr (inr (inr (inr (inl h))))))) = row_again (λ t n. IsFlag t n) (λ flag b. elem_rows flag b) 6 (λ x. elem_in_table x) _ _ all_in_table_exact (λ b. refl) text x h
-elem_again text x (inr (inr (inr (inr (inr (inr (inr h))))))) = row_again (λ t n. IsFlag t n) (λ flag b. elem_rows flag b) 7 (λ x. elem_from DeclarativeElem x) _ _ expression_list_exact (λ b. refl) text x h
+pub elem_again : (text : List ℕ) (x : Elem) → IsElem text x → HasRow (λ t n. IsSegmentFlag t n) (λ flag b. elem_rows flag b) text x
+elem_again text x (inl h) = row_again (λ t n. IsSegmentFlag t n) (λ flag b. elem_rows flag b) 0 (λ x. elem_in_first x) _ _ in_first_exact (λ b. refl) text x h
+elem_again text x (inr (inl h)) = row_again (λ t n. IsSegmentFlag t n) (λ flag b. elem_rows flag b) 1 (λ x. elem_from PassiveElem x) _ _ function_list_exact (λ b. refl) text x h
+elem_again text x (inr (inr (inl h))) = row_again (λ t n. IsSegmentFlag t n) (λ flag b. elem_rows flag b) 2 (λ x. elem_in_table x) _ _ in_table_exact (λ b. refl) text x h
+elem_again text x (inr (inr (inr (inl h)))) = row_again (λ t n. IsSegmentFlag t n) (λ flag b. elem_rows flag b) 3 (λ x. elem_from DeclarativeElem x) _ _ function_list_exact (λ b. refl) text x h
+elem_again text x (inr (inr (inr (inr (inl h))))) =
+    row_again (λ t n. IsSegmentFlag t n) (λ flag b. elem_rows flag b) 4 (λ x. elem_in_first x) _ _ all_in_first_exact (λ b. refl) text x h
+elem_again text x (inr (inr (inr (inr (inr (inl h)))))) = row_again (λ t n. IsSegmentFlag t n) (λ flag b. elem_rows flag b) 5 (λ x. elem_from PassiveElem x) _ _ expression_list_exact (λ b. refl) text x h
+elem_again text x (inr (inr (inr (inr (inr (inr (inl h))))))) = row_again (λ t n. IsSegmentFlag t n) (λ flag b. elem_rows flag b) 6 (λ x. elem_in_table x) _ _ all_in_table_exact (λ b. refl) text x h
+elem_again text x (inr (inr (inr (inr (inr (inr (inr h))))))) = row_again (λ t n. IsSegmentFlag t n) (λ flag b. elem_rows flag b) 7 (λ x. elem_from DeclarativeElem x) _ _ expression_list_exact (λ b. refl) text x h
 
 pub elem_exact : IsExact (λ t x. IsElem t x) (λ b. elem_at b)
-elem_exact = switch_exact (λ t x. IsElem t x) (λ t n. IsFlag t n) (λ b. u32_at b) u32_exact (λ flag b. elem_rows flag b) elem_found elem_again
+elem_exact = switch_exact (λ t x. IsElem t x) (λ t n. IsSegmentFlag t n) (λ b. u32_at b) u32_exact (λ flag b. elem_rows flag b) elem_found elem_again
 
 -- ---- data
 
@@ -110,20 +111,21 @@ bytes_in_first_exact = offset_exact IsBytes (λ b. bytes_at b) bytes_exact
 bytes_in_memory_exact : IsExact (λ t x. AtPlace IsBytes t x) (λ b. place_at (λ b. bytes_at b) b)
 bytes_in_memory_exact = place_exact IsBytes (λ b. bytes_at b) bytes_exact
 
-data_found : (flag : ℕ) (bytes : List ℕ) → FindsBehind (λ t x. IsData t x) (λ t n. IsFlag t n) flag bytes (data_rows flag bytes)
+data_found : (flag : ℕ) (bytes : List ℕ) → FindsBehind (λ t x. IsData t x) (λ t n. IsSegmentFlag t n) flag bytes (data_rows flag bytes)
 data_found flag bytes =
-    row_or (λ t x. IsData t x) (λ t n. IsFlag t n) flag bytes (flag == 0) _ _
-    (row_found (λ t x. IsData t x) (λ t n. IsFlag t n) 0 (λ x. data_from (ActiveData 0 x.0) x.1) _ _ bytes_in_first_exact (λ t x h. inl h) flag bytes)
-    (row_or (λ t x. IsData t x) (λ t n. IsFlag t n) flag bytes (flag == 1) _ _
-    (row_found (λ t x. IsData t x) (λ t n. IsFlag t n) 1 (λ x. data_from PassiveData x) _ _ bytes_exact (λ t x h. inr (inl h)) flag bytes)
-    (row_or (λ t x. IsData t x) (λ t n. IsFlag t n) flag bytes (flag == 2) _ _
-    (row_found (λ t x. IsData t x) (λ t n. IsFlag t n) 2 (λ x. data_from (ActiveData x.0 x.1.0) x.1.1) _ _ bytes_in_memory_exact (λ t x h. inr (inr h)) flag bytes)
-    (no_row (λ t x. IsData t x) (λ t n. IsFlag t n) flag bytes)))
+    row_or (λ t x. IsData t x) (λ t n. IsSegmentFlag t n) flag bytes (flag == 0) _ _
+    (row_found (λ t x. IsData t x) (λ t n. IsSegmentFlag t n) 0 (λ x. data_from (ActiveData 0 x.0) x.1) _ _ bytes_in_first_exact (λ t x h. inl h) flag bytes)
+    (row_or (λ t x. IsData t x) (λ t n. IsSegmentFlag t n) flag bytes (flag == 1) _ _
+    (row_found (λ t x. IsData t x) (λ t n. IsSegmentFlag t n) 1 (λ x. data_from PassiveData x) _ _ bytes_exact (λ t x h. inr (inl h)) flag bytes)
+    (row_or (λ t x. IsData t x) (λ t n. IsSegmentFlag t n) flag bytes (flag == 2) _ _
+    (row_found (λ t x. IsData t x) (λ t n. IsSegmentFlag t n) 2 (λ x. data_from (ActiveData x.0 x.1.0) x.1.1) _ _ bytes_in_memory_exact (λ t x h. inr (inr h)) flag bytes)
+    (no_row (λ t x. IsData t x) (λ t n. IsSegmentFlag t n) flag bytes)))
 
-data_again : (text : List ℕ) (x : DataSegment) → IsData text x → HasRow (λ t n. IsFlag t n) (λ flag b. data_rows flag b) text x
-data_again text x (inl h) = row_again (λ t n. IsFlag t n) (λ flag b. data_rows flag b) 0 (λ x. data_from (ActiveData 0 x.0) x.1) _ _ bytes_in_first_exact (λ b. refl) text x h
-data_again text x (inr (inl h)) = row_again (λ t n. IsFlag t n) (λ flag b. data_rows flag b) 1 (λ x. data_from PassiveData x) _ _ bytes_exact (λ b. refl) text x h
-data_again text x (inr (inr h)) = row_again (λ t n. IsFlag t n) (λ flag b. data_rows flag b) 2 (λ x. data_from (ActiveData x.0 x.1.0) x.1.1) _ _ bytes_in_memory_exact (λ b. refl) text x h
+data_again : (text : List ℕ) (x : DataSegment) → IsData text x → HasRow (λ t n. IsSegmentFlag t n) (λ flag b. data_rows flag b) text x
+data_again text x (inl h) =
+    row_again (λ t n. IsSegmentFlag t n) (λ flag b. data_rows flag b) 0 (λ x. data_from (ActiveData 0 x.0) x.1) _ _ bytes_in_first_exact (λ b. refl) text x h
+data_again text x (inr (inl h)) = row_again (λ t n. IsSegmentFlag t n) (λ flag b. data_rows flag b) 1 (λ x. data_from PassiveData x) _ _ bytes_exact (λ b. refl) text x h
+data_again text x (inr (inr h)) = row_again (λ t n. IsSegmentFlag t n) (λ flag b. data_rows flag b) 2 (λ x. data_from (ActiveData x.0 x.1.0) x.1.1) _ _ bytes_in_memory_exact (λ b. refl) text x h
 
 pub data_exact : IsExact (λ t x. IsData t x) (λ b. data_at b)
-data_exact = switch_exact (λ t x. IsData t x) (λ t n. IsFlag t n) (λ b. u32_at b) u32_exact (λ flag b. data_rows flag b) data_found data_again
+data_exact = switch_exact (λ t x. IsData t x) (λ t n. IsSegmentFlag t n) (λ b. u32_at b) u32_exact (λ flag b. data_rows flag b) data_found data_again

@@ -4,7 +4,7 @@ use Rattle.wz_bytes.specs.Reading.{Form, Reading}
 use Rattle.wz_bytes.specs.Forms.{made_at, IsVector, IsBytes, bytes_at, switch_at}
 use Rattle.wz_module.specs.Datas.{DataMode, PassiveData, ActiveData, DataSegment}
 use Rattle.wz_decode_code.specs.InstrReading.{u32_at}
-use Rattle.wz_decode_sections.specs.Productions.{Production, IsFlag}
+use Rattle.wz_decode_sections.specs.Productions.{Production, IsSegmentFlag}
 use Rattle.wz_decode_sections.specs.Offsets.{AtOffset, offset_at, AtPlace, place_at}
 
 abbrev pub data_from : DataMode → List ℕ → DataSegment
@@ -15,9 +15,9 @@ data_from mode bytes = record { mode = mode; bytes = bytes }
 --        | 2:u32 memidx expr vec(byte)   active
 abbrev pub IsData : Form DataSegment
 IsData text segment =
-    Production IsFlag 0 (λ x. data_from (ActiveData 0 x.0) x.1) (λ t x. AtOffset IsBytes t x) text segment
-    ⊎ (Production IsFlag 1 (λ bytes. data_from PassiveData bytes) IsBytes text segment
-    ⊎ Production IsFlag 2 (λ x. data_from (ActiveData x.0 x.1.0) x.1.1) (λ t x. AtPlace IsBytes t x) text segment)
+    Production IsSegmentFlag 0 (λ x. data_from (ActiveData 0 x.0) x.1) (λ t x. AtOffset IsBytes t x) text segment
+    ⊎ (Production IsSegmentFlag 1 (λ bytes. data_from PassiveData bytes) IsBytes text segment
+    ⊎ Production IsSegmentFlag 2 (λ x. data_from (ActiveData x.0 x.1.0) x.1.1) (λ t x. AtPlace IsBytes t x) text segment)
 
 -- datasec ::= vec(data)
 abbrev pub IsDataSection : Form (List DataSegment)

@@ -10,7 +10,7 @@ use Rattle.wz_decode_code.specs.Types.{IsRefKind, kind_at}
 use Rattle.wz_decode_code.specs.InstrReading.{u32_at}
 use Rattle.wz_decode_code.specs.Code.{IsExpression}
 use Rattle.wz_decode_code.specs.Reading.{expression_at}
-use Rattle.wz_decode_sections.specs.Productions.{Production, IsFlag}
+use Rattle.wz_decode_sections.specs.Productions.{Production, IsSegmentFlag}
 use Rattle.wz_decode_sections.specs.Offsets.{AtOffset, offset_at, AtPlace, place_at}
 use Rattle.wz_decode_sections.specs.FunctionSection.{AreIndices, indices_at}
 
@@ -59,14 +59,14 @@ elem_in_table x = elem_from (ActiveElem x.0 x.1.0) x.1.1
 --        | 7:u32 reftype vec(expr)                     declarative
 abbrev pub IsElem : Form Elem
 IsElem text elem =
-    Production IsFlag 0 (λ x. elem_in_first x) (λ t x. AtOffset AreFunctions t x) text elem
-    ⊎ (Production IsFlag 1 (λ x. elem_from PassiveElem x) IsFunctionList text elem
-    ⊎ (Production IsFlag 2 (λ x. elem_in_table x) (λ t x. AtPlace IsFunctionList t x) text elem
-    ⊎ (Production IsFlag 3 (λ x. elem_from DeclarativeElem x) IsFunctionList text elem
-    ⊎ (Production IsFlag 4 (λ x. elem_in_first x) (λ t x. AtOffset AreExpressions t x) text elem
-    ⊎ (Production IsFlag 5 (λ x. elem_from PassiveElem x) IsExpressionList text elem
-    ⊎ (Production IsFlag 6 (λ x. elem_in_table x) (λ t x. AtPlace IsExpressionList t x) text elem
-    ⊎ Production IsFlag 7 (λ x. elem_from DeclarativeElem x) IsExpressionList text elem))))))
+    Production IsSegmentFlag 0 (λ x. elem_in_first x) (λ t x. AtOffset AreFunctions t x) text elem
+    ⊎ (Production IsSegmentFlag 1 (λ x. elem_from PassiveElem x) IsFunctionList text elem
+    ⊎ (Production IsSegmentFlag 2 (λ x. elem_in_table x) (λ t x. AtPlace IsFunctionList t x) text elem
+    ⊎ (Production IsSegmentFlag 3 (λ x. elem_from DeclarativeElem x) IsFunctionList text elem
+    ⊎ (Production IsSegmentFlag 4 (λ x. elem_in_first x) (λ t x. AtOffset AreExpressions t x) text elem
+    ⊎ (Production IsSegmentFlag 5 (λ x. elem_from PassiveElem x) IsExpressionList text elem
+    ⊎ (Production IsSegmentFlag 6 (λ x. elem_in_table x) (λ t x. AtPlace IsExpressionList t x) text elem
+    ⊎ Production IsSegmentFlag 7 (λ x. elem_from DeclarativeElem x) IsExpressionList text elem))))))
 
 -- elemsec ::= vec(elem)
 abbrev pub IsElementSection : Form (List Elem)

@@ -9,5 +9,5 @@ abbrev pub Production : {X Y : Type 0} → Form ℕ → ℕ → (Y → X) → Fo
 Production IsTag tag make Spells text x = (first second : List ℕ) × (text ≡ first ++ second) × IsTag first tag × Made make Spells second x
 
 -- the tag of a segment, a number that may be padded
-abbrev pub IsFlag : Form ℕ
-IsFlag text flag = IsU32 text flag
+abbrev pub IsSegmentFlag : Form ℕ
+IsSegmentFlag text flag = IsU32 text flag

@@ -4,7 +4,7 @@ use Rattle.wz_module.specs.Elements.{Elem}
 use Rattle.wz_module.specs.declared.items.Span.{Span}
 use Rattle.wz_decode_code.specs.Instructions.{IsU32}
 use Rattle.wz_decode_code.specs.InstrReading.{u32_at}
-use Rattle.wz_decode_sections.specs.Productions.{IsFlag}
+use Rattle.wz_decode_sections.specs.Productions.{IsSegmentFlag}
 use Rattle.wz_decode_sections.specs.ElementSection.{IsElem, elem_at}
 
 abbrev pub span_with : ℕ → ℕ → ℕ → Span
@@ -16,7 +16,7 @@ pub record IsSpan (at : ℕ) (segment : List ℕ) (span : Span) : Type 0 where
   pub number : ℕ
   pub behind : List ℕ
   pub parts : segment ≡ flag ++ behind
-  pub spelled : IsFlag flag number
+  pub spelled : IsSegmentFlag flag number
   pub is : span ≡ span_with at (length flag) (length segment)
 
 -- segments one behind the other, the first of them at this place, and their spans

@@ -16,7 +16,7 @@ use Rattle.wz_module.specs.Sections.{Section, payload_of}
 use Rattle.wz_module.specs.Exports.{Export}
 use Rattle.wz_module.specs.Datas.{PassiveData, ActiveData, DataSegment}
 use Rattle.wz_module.specs.Module.{Module}
-use Rattle.wz_decode_sections.specs.Productions.{IsFlag}
+use Rattle.wz_decode_sections.specs.Productions.{IsSegmentFlag}
 use Rattle.wz_decode_sections.specs.ImportSection.{IsImport}
 use Rattle.wz_decode_sections.specs.GlobalSection.{IsGlobalDef}
 use Rattle.wz_decode_sections.specs.ExportSection.{IsExportTarget, export_from, IsExport}
@@ -97,9 +97,9 @@ export_name_within : Measures (λ t x. IsExport t x) (λ x. length x.name)
 export_name_within text x h = made_within (λ x. export_from x) _ (λ x. length x.name) (first_within IsName (λ t x. IsExportTarget t x) (λ name. length name) name_within) text x h
 
 data_within : Measures (λ t x. IsData t x) (λ x. length x.bytes)
-data_within text x (inl h) = production_within IsFlag 0 (λ x. data_from (ActiveData 0 x.0) x.1) _ (λ x. length x.bytes) (offset_within IsBytes (λ b. length b) bytes_within) text x h
-data_within text x (inr (inl h)) = production_within IsFlag 1 (λ b. data_from PassiveData b) _ (λ x. length x.bytes) bytes_within text x h
-data_within text x (inr (inr h)) = production_within IsFlag 2 (λ x. data_from (ActiveData x.0 x.1.0) x.1.1) _ (λ x. length x.bytes) (place_within IsBytes (λ b. length b) bytes_within) text x h
+data_within text x (inl h) = production_within IsSegmentFlag 0 (λ x. data_from (ActiveData 0 x.0) x.1) _ (λ x. length x.bytes) (offset_within IsBytes (λ b. length b) bytes_within) text x h
+data_within text x (inr (inl h)) = production_within IsSegmentFlag 1 (λ b. data_from PassiveData b) _ (λ x. length x.bytes) bytes_within text x h
+data_within text x (inr (inr h)) = production_within IsSegmentFlag 2 (λ x. data_from (ActiveData x.0 x.1.0) x.1.1) _ (λ x. length x.bytes) (place_within IsBytes (λ b. length b) bytes_within) text x h
 
 -- a name of few bytes
 abbrev pub IsExportName : List ℕ → Type 0
