@@ -6,7 +6,7 @@ use Rattle.wz_machine.specs.Entered.{entered, entered_callable}
 use Rattle.wz_init.specs.declared.order.Phase.{Phase}
 use Rattle.wz_init.specs.declared.faults.InitFault.{InitFault}
 use Rattle.wz_init.specs.declared.faults.InitFault.TheVariants as fault
-use Rattle.wz_init.specs.Run.{Trapped, RunEnd, Returned, run}
+use Rattle.wz_init.specs.Run.{StepTraps, RunEnd, Returned, run}
 use Rattle.wz_init.specs.Ready.{Reached, StoppedIn, phase_end, phases_run, IsFaultOf}
 use Rattle.wz_init.specs.Reached.{IsLeftOf, IsSound}
 use Rattle.wz_init.specs.Turns.{FunctionsAreSmall, KeepsTakingNothing, StopsBy}
@@ -66,7 +66,7 @@ unfolding phases_run
 phase_stops phase function later s fuel ticks (fault.ElementOutOfBounds index) h = absurd h
 phase_stops phase function later s fuel ticks (fault.DataOutOfBounds index) h = absurd h
 phase_stops phase function later s fuel ticks (fault.Trap other kind) h =
-    ap (λ (x : RunEnd). phase_end phase (λ new left made. phases_run later new left made) x) h.1 ∙ ap (λ (p : Phase). StoppedIn p (Trapped kind)) (sym h.0)
+    ap (λ (x : RunEnd). phase_end phase (λ new left made. phases_run later new left made) x) h.1 ∙ ap (λ (p : Phase). StoppedIn p (StepTraps kind)) (sym h.0)
 phase_stops phase function later s fuel ticks fault.OutOfFuel h = (phase, ap (λ (x : RunEnd). phase_end phase (λ new left made. phases_run later new left made) x) h)
 phase_stops phase function later s fuel ticks (fault.ImportCalled import) h = (phase, ap (λ (x : RunEnd). phase_end phase (λ new left made. phases_run later new left made) x) h)
 phase_stops phase function later s fuel ticks (fault.FloatUsed op) h = (phase, ap (λ (x : RunEnd). phase_end phase (λ new left made. phases_run later new left made) x) h)

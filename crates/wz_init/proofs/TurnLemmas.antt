@@ -17,7 +17,7 @@ use Rattle.wz_machine.specs.Replies.{put, put_inside}
 use Rattle.wz_machine.specs.TypedTerms.{IsMachineTyped}
 use Rattle.wz_machine.proofs.LeafLemmas.{if-both}
 use Rattle.wz_types.specs.declared.value.Value.TheVariants.{I32}
-use Rattle.wz_init.specs.Run.{Stop, FramesAreTooMany, LocalsAreTooMany, RunEnd, Returned, Stopped, TableWouldChange, Trapped, FloatIsAsked, ImportIsCalled, too_much, within_limits, granted_growth, growth_value, run_from}
+use Rattle.wz_init.specs.Run.{Stop, FramesAreTooMany, LocalsAreTooMany, RunEnd, Returned, Stopped, TableWouldChange, StepTraps, FloatIsAsked, ImportIsCalled, too_much, within_limits, granted_growth, growth_value, run_from}
 use Rattle.wz_code.specs.declared.numeric.NumOp.{NumOp}
 use Rattle.wz_machine.specs.declared.questions.HostTarget.TheVariants as target
 use Rattle.wz_init.specs.declared.turn.Turned.TheVariants as turned
@@ -237,7 +237,7 @@ module _ (s after : State) (stack : List Standing) (term : Term) (spares : head_
             (put_own (growth_value after index by ∷ []) t.0 (growth_value_own after index by, tt) fine.1);
       }
 
-  pub trapped_run : (kind : TrapKind) → IsTicked s term (turned.Trapped kind) after stack → (fuel ticks : ℕ) → run_from (suc fuel) ticks s term ≡ Stopped (Trapped kind)
+  pub trapped_run : (kind : TrapKind) → IsTicked s term (turned.Trapped kind) after stack → (fuel ticks : ℕ) → run_from (suc fuel) ticks s term ≡ Stopped (StepTraps kind)
   trapped_run kind t fuel ticks = run_step fuel ticks s term (Trap kind) spares t
 
   pub float_run : (op : NumOp) → IsTicked s term (turned.Float op) after stack → (fuel ticks : ℕ) → run_from (suc fuel) ticks s term ≡ Stopped (FloatIsAsked op)

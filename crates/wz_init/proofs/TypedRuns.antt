@@ -43,7 +43,7 @@ use Rattle.wz_init.specs.Instances.{Instance, ElementUnfit, DataUnfit, NoInstanc
 use Rattle.wz_init.specs.Instantiation.{fresh}
 use Rattle.wz_init.specs.Orders.{IsPlainFunction, IsPlainWhereGiven, IsRunnable}
 use Rattle.wz_init.specs.Reached.{IsOwn, AreOwnReferences, lasting_of}
-use Rattle.wz_init.specs.Run.{Stop, FuelIsSpent, TableWouldChange, FramesAreTooMany, LocalsAreTooMany, Trapped, NoRuleFits, FloatIsAsked, ImportIsCalled, RunEnd, Returned, Stopped, frames_limit, all_locals_limit, too_much, within_limits, is_granted, granted_growth, pages_at, growth_value, run_question, run_on, run_from, run_standing, run}
+use Rattle.wz_init.specs.Run.{Stop, FuelIsSpent, TableWouldChange, FramesAreTooMany, LocalsAreTooMany, StepTraps, NoRuleFits, FloatIsAsked, ImportIsCalled, RunEnd, Returned, Stopped, frames_limit, all_locals_limit, too_much, within_limits, is_granted, granted_growth, pages_at, growth_value, run_question, run_on, run_from, run_standing, run}
 use Rattle.wz_init.specs.Ready.{Ready, Reached, StoppedIn, UnfitElement, UnfitData, NeverMade, phase_of, phases, phase_end, phases_run, ready_from, ready}
 use Rattle.wz_init.specs.Typed.{DatasHoldBytes, FreshIsTyped, RunIsTyped, RunIsNeverStuck}
 use Rattle.wz_init.proofs.FreshLemmas.{was_allocated}
@@ -86,7 +86,7 @@ HasRule FuelIsSpent = Unit {0}
 HasRule TableWouldChange = Unit {0}
 HasRule FramesAreTooMany = Unit {0}
 HasRule LocalsAreTooMany = Unit {0}
-HasRule (Trapped kind) = Unit {0}
+HasRule (StepTraps kind) = Unit {0}
 HasRule NoRuleFits = ⊥
 HasRule (FloatIsAsked op) = Unit {0}
 HasRule (ImportIsCalled import) = Unit {0}

@@ -12,7 +12,7 @@ use Rattle.wz_init.specs.declared.faults.InitFault.TheVariants as fault
 use Rattle.wz_init.specs.States.{state_in}
 use Rattle.wz_init.specs.Instances.{Instance, ElementUnfit, DataUnfit, NoInstance, Fresh}
 use Rattle.wz_init.specs.Instantiation.{fresh}
-use Rattle.wz_init.specs.Run.{Stop, FuelIsSpent, TableWouldChange, FramesAreTooMany, LocalsAreTooMany, Trapped, FloatIsAsked, ImportIsCalled, RunEnd, Returned, Stopped, run}
+use Rattle.wz_init.specs.Run.{Stop, FuelIsSpent, TableWouldChange, FramesAreTooMany, LocalsAreTooMany, StepTraps, FloatIsAsked, ImportIsCalled, RunEnd, Returned, Stopped, run}
 
 pub data Ready : Type 0 where
   -- the state that the last function left, and the ticks of all of them
@@ -65,7 +65,7 @@ IsReached m order store ticks = ready m order ≡ Reached (state_in m store) tic
 abbrev pub IsFaultOf : Ready → InitFault → Type 0
 IsFaultOf end (fault.ElementOutOfBounds index) = end ≡ UnfitElement index
 IsFaultOf end (fault.DataOutOfBounds index) = end ≡ UnfitData index
-IsFaultOf end (fault.Trap phase kind) = end ≡ StoppedIn phase (Trapped kind)
+IsFaultOf end (fault.Trap phase kind) = end ≡ StoppedIn phase (StepTraps kind)
 IsFaultOf end fault.OutOfFuel = (phase : Phase) × (end ≡ StoppedIn phase FuelIsSpent)
 IsFaultOf end (fault.ImportCalled import) = (phase : Phase) × (end ≡ StoppedIn phase (ImportIsCalled import))
 IsFaultOf end (fault.FloatUsed op) = (phase : Phase) × (end ≡ StoppedIn phase (FloatIsAsked op))

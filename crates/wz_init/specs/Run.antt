@@ -26,7 +26,7 @@ pub data Stop : Type 0 where
   TableWouldChange : Stop
   FramesAreTooMany : Stop
   LocalsAreTooMany : Stop
-  Trapped : TrapKind → Stop
+  StepTraps : TrapKind → Stop
   NoRuleFits : Stop
   FloatIsAsked : NumOp → Stop
   ImportIsCalled : ℕ → Stop
@@ -85,7 +85,7 @@ run_question on s rest (AskHost (target.Foreign id) arguments type) = Stopped No
 abbrev pub run_on : (State → Term → RunEnd) → ℕ → ℕ → State → Answer → RunEnd
 run_on on fuel ticks s (Next change term) = within_limits (λ new. on (applied change s) new) term (too_much term)
 run_on on fuel ticks s (Done values) = Returned s fuel ticks
-run_on on fuel ticks s (Trap kind) = Stopped (Trapped kind)
+run_on on fuel ticks s (Trap kind) = Stopped (StepTraps kind)
 run_on on fuel ticks s (Ask question rest) = run_question on s rest question
 run_on on fuel ticks s Stuck = Stopped NoRuleFits
 

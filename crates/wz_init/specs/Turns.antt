@@ -22,7 +22,7 @@ use Rattle.wz_init.specs.declared.order.Phase.{Phase}
 use Rattle.wz_init.specs.declared.order.RunOrder.{RunOrder}
 use Rattle.wz_init.specs.declared.faults.InitFault.{InitFault}
 use Rattle.wz_init.specs.declared.faults.InitFault.TheVariants as fault
-use Rattle.wz_init.specs.Run.{FuelIsSpent, TableWouldChange, FramesAreTooMany, LocalsAreTooMany, Trapped, FloatIsAsked, ImportIsCalled, RunEnd, Returned, Stopped, frames_limit, all_locals_limit, too_much, run_from}
+use Rattle.wz_init.specs.Run.{FuelIsSpent, TableWouldChange, FramesAreTooMany, LocalsAreTooMany, StepTraps, FloatIsAsked, ImportIsCalled, RunEnd, Returned, Stopped, frames_limit, all_locals_limit, too_much, run_from}
 use Rattle.wz_init.specs.Reached.{HoldsOwn, TermOwn}
 use Rattle.wz_machine.specs.declared.advance.Advance.{Advance}
 use Rattle.wz_machine.specs.Advance.{Reaches, ReachesEntry}
@@ -63,7 +63,7 @@ IsTicked s term (turned.Foreign id) after stack =
 abbrev pub StopsBy : Phase → RunEnd → InitFault → Type 0
 StopsBy phase end (fault.ElementOutOfBounds index) = ⊥
 StopsBy phase end (fault.DataOutOfBounds index) = ⊥
-StopsBy phase end (fault.Trap other kind) = (other ≡ phase) × (end ≡ Stopped (Trapped kind))
+StopsBy phase end (fault.Trap other kind) = (other ≡ phase) × (end ≡ Stopped (StepTraps kind))
 StopsBy phase end fault.OutOfFuel = end ≡ Stopped FuelIsSpent
 StopsBy phase end (fault.ImportCalled import) = end ≡ Stopped (ImportIsCalled import)
 StopsBy phase end (fault.FloatUsed op) = end ≡ Stopped (FloatIsAsked op)

@@ -20,7 +20,7 @@ use Rattle.wz_exports.specs.declared.fault.ExportFault.TheVariants as export
 use Rattle.wz_store.specs.Made.{StoreState}
 use Rattle.wz_init.specs.declared.faults.InitFault.{InitFault}
 use Rattle.wz_init.specs.declared.faults.InitFault.TheVariants as init
-use Rattle.wz_init.specs.Run.{FuelIsSpent, TableWouldChange, FramesAreTooMany, LocalsAreTooMany, Trapped, FloatIsAsked, ImportIsCalled}
+use Rattle.wz_init.specs.Run.{FuelIsSpent, TableWouldChange, FramesAreTooMany, LocalsAreTooMany, StepTraps, FloatIsAsked, ImportIsCalled}
 use Rattle.wz_init.specs.States.{state_in}
 use Rattle.wz_init.specs.Ready.{Ready, Reached, StoppedIn, UnfitElement, UnfitData, ready, IsRefused as InitRefused}
 use Rattle.wz_top.specs.Refusals.{decode_outcome, valid_outcome, export_outcome, init_outcome}
@@ -72,7 +72,7 @@ pub run_refused : (s : Settings) (bytes : List ℕ) (m : Module) (k : KeptExport
     → InitRefused m (order_of s k) fault → IsRefusedBy s bytes (init_outcome fault)
 run_refused s bytes m k (init.ElementOutOfBounds index) a keeps is = run_asks s bytes m k (UnfitElement index) _ a keeps is refl
 run_refused s bytes m k (init.DataOutOfBounds index) a keeps is = run_asks s bytes m k (UnfitData index) _ a keeps is refl
-run_refused s bytes m k (init.Trap phase kind) a keeps is = run_asks s bytes m k (StoppedIn phase (Trapped kind)) _ a keeps is refl
+run_refused s bytes m k (init.Trap phase kind) a keeps is = run_asks s bytes m k (StoppedIn phase (StepTraps kind)) _ a keeps is refl
 run_refused s bytes m k init.OutOfFuel a keeps is = run_asks s bytes m k (StoppedIn is.0 FuelIsSpent) _ a keeps is.1 refl
 run_refused s bytes m k (init.ImportCalled import) a keeps is = run_asks s bytes m k (StoppedIn is.0 (ImportIsCalled import)) _ a keeps is.1 refl
 run_refused s bytes m k (init.FloatUsed op) a keeps is = run_asks s bytes m k (StoppedIn is.0 (FloatIsAsked op)) _ a keeps is.1 refl
