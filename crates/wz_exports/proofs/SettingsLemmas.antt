@@ -9,7 +9,7 @@ use Rattle.std.proofs.lemmas.Slice.Eq.{bytes_eq-Decides}
 use Rattle.wz_words.specs.declared.settings.Rename.{Rename}
 use Rattle.wz_words.specs.declared.settings.Usage.{Usage}
 use Rattle.wz_words.specs.Options.{Valued, Output, Function, RenameFunction, Fuel, SampleNumber, same_valued, same_text}
-use Rattle.wz_words.specs.Parts.{Part, Operand, FlagPart, ValuedPart, UnknownPart, Halves, halves_of, command_parts}
+use Rattle.wz_words.specs.Parts.{Part, OperandPart, FlagPart, ValuedPart, UnknownPart, Halves, halves_of, command_parts}
 use Rattle.wz_words.specs.Settings.{Settings, values_of, with_halves, renames_of, asked}
 use Rattle.wz_words.specs.Faults.{renames_limit, bytes_together, renames_to, renames_from, rename_fault, fault_of, or_later, first_fault, unless_fault, settings}
 use Rattle.wz_words.proofs.RenamesLaws.{same_is_pointwise}
@@ -67,7 +67,7 @@ cond-joined false v xs ys zs e = e
 
 values-joined : (option : Valued) (parts more : List Part) → values_of option (parts ++ more) ≡ values_of option parts ++ values_of option more
 values-joined option [] more = refl
-values-joined option (Operand at word ∷ parts) more = values-joined option parts more
+values-joined option (OperandPart at word ∷ parts) more = values-joined option parts more
 values-joined option (FlagPart at flag ∷ parts) more = values-joined option parts more
 values-joined option (ValuedPart at other None ∷ parts) more = values-joined option parts more
 values-joined option (ValuedPart at other (Some value) ∷ parts) more =
@@ -103,7 +103,7 @@ new_rename earlier at value (Some h) apart fine =
       by false false false p q e = one_more (renames_of earlier) (record { dst = h.front; src = h.back }) apart p q
 
 next_part : (before : List Part) (part : Part) → AreApart (asked_renames before) → fault_of before part ≡ None → AreApart (asked_renames (before ++ part ∷ []))
-next_part before (Operand at word) apart fine = no_rename before (Operand at word) apart refl
+next_part before (OperandPart at word) apart fine = no_rename before (OperandPart at word) apart refl
 next_part before (FlagPart at flag) apart fine = no_rename before (FlagPart at flag) apart refl
 next_part before (UnknownPart at) apart fine = no_rename before (UnknownPart at) apart refl
 next_part before (ValuedPart at option None) apart fine = no_rename before (ValuedPart at option None) apart refl

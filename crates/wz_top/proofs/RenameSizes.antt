@@ -9,7 +9,7 @@ use Rattle.wz_words.specs.declared.settings.Rename.{Rename}
 use Rattle.wz_words.specs.declared.settings.Usage.{Usage}
 use Rattle.wz_words.specs.declared.settings.Usage.TheVariants.{RenamesTooLong}
 use Rattle.wz_words.specs.Options.{Output, Function, RenameFunction, Fuel, SampleNumber, same_valued}
-use Rattle.wz_words.specs.Parts.{Part, Operand, FlagPart, ValuedPart, UnknownPart, Halves, behind_byte, halves_of, command_parts}
+use Rattle.wz_words.specs.Parts.{Part, OperandPart, FlagPart, ValuedPart, UnknownPart, Halves, behind_byte, halves_of, command_parts}
 use Rattle.wz_words.specs.Settings.{Settings, values_of, rename_of, with_halves, renames_of, asked}
 use Rattle.wz_words.specs.Faults.{renames_limit, bytes_together, rename_fault, fault_of, or_later, first_fault, unless_fault, settings}
 
@@ -61,7 +61,7 @@ values_in parts = values_of RenameFunction parts
 
 values-joined : (parts more : List Part) → values_in (parts ++ more) ≡ values_in parts ++ values_in more
 values-joined [] more = refl
-values-joined (Operand at word ∷ parts) more = values-joined parts more
+values-joined (OperandPart at word ∷ parts) more = values-joined parts more
 values-joined (FlagPart at flag ∷ parts) more = values-joined parts more
 values-joined (ValuedPart at other None ∷ parts) more = values-joined parts more
 values-joined (ValuedPart at other (Some value) ∷ parts) more =
@@ -89,7 +89,7 @@ added earlier at value (Some halves) fine =
     ltb-false renames_limit (bytes_together earlier + length value) (not_long (nat_lt renames_limit (bytes_together earlier + length value)) at _ fine)
 
 next_part : (before : List Part) (part : Part) → IsLimited (values_in before) → fault_of before part ≡ None → IsLimited (values_in (before ++ part ∷ []))
-next_part before (Operand at word) few fine = unchanged before (Operand at word) few refl
+next_part before (OperandPart at word) few fine = unchanged before (OperandPart at word) few refl
 next_part before (FlagPart at flag) few fine = unchanged before (FlagPart at flag) few refl
 next_part before (UnknownPart at) few fine = unchanged before (UnknownPart at) few refl
 next_part before (ValuedPart at option None) few fine = unchanged before (ValuedPart at option None) few refl

@@ -6,7 +6,7 @@ use Rattle.wz_words.specs.declared.settings.InputFrom.TheVariants as input
 use Rattle.wz_words.specs.declared.settings.Usage.{Usage}
 use Rattle.wz_words.specs.declared.settings.Usage.TheVariants.{BadNumber}
 use Rattle.wz_words.specs.Options.{Output, Function, RenameFunction, Fuel, SampleNumber, decimal}
-use Rattle.wz_words.specs.Parts.{Part, Operand, FlagPart, ValuedPart, UnknownPart, command_parts}
+use Rattle.wz_words.specs.Parts.{Part, OperandPart, FlagPart, ValuedPart, UnknownPart, command_parts}
 use Rattle.wz_words.specs.Settings.{Settings, values_of, first_value, number_of_value, input_or_sample, operand_in, asked, is_stream}
 use Rattle.wz_words.specs.Faults.{settings, sample_limit, number_fault, fault_of, first_fault, or_later, unless_fault, is_repeated, is_sample_beside}
 use Rattle.wz_top.specs.Devices.{IsSmallSample}
@@ -49,7 +49,7 @@ small_behind before part parts small e = small (rest_none (fault_of before part)
 
 small_in : (before parts : List Part) → first_fault before parts ≡ no_fault → IsSmall parts
 small_in before [] e = tt
-small_in before (Operand at word ∷ parts) e = small_behind before (Operand at word) parts (small_in (before ++ Operand at word ∷ []) parts) e
+small_in before (OperandPart at word ∷ parts) e = small_behind before (OperandPart at word) parts (small_in (before ++ OperandPart at word ∷ []) parts) e
 small_in before (FlagPart at flag ∷ parts) e = small_behind before (FlagPart at flag) parts (small_in (before ++ FlagPart at flag ∷ []) parts) e
 small_in before (UnknownPart at ∷ parts) e = small_behind before (UnknownPart at) parts (small_in (before ++ UnknownPart at ∷ []) parts) e
 small_in before (ValuedPart at option None ∷ parts) e =

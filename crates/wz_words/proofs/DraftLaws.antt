@@ -6,7 +6,7 @@ use Rattle.wz_words.specs.declared.settings.Rename.{Rename}
 use Rattle.wz_words.specs.declared.settings.Usage.{Usage}
 use Rattle.wz_words.specs.declared.settings.Usage.TheVariants.{MissingValue, RepeatedOption, ExtraWord}
 use Rattle.wz_words.specs.Options.{Flag, KeepInit, Reactor, Report, Valued, Output, Function, RenameFunction, Fuel, SampleNumber, same_flag, same_valued, decimal}
-use Rattle.wz_words.specs.Parts.{Part, Operand, FlagPart, ValuedPart, UnknownPart, Halves, halves_of, command_parts}
+use Rattle.wz_words.specs.Parts.{Part, OperandPart, FlagPart, ValuedPart, UnknownPart, Halves, halves_of, command_parts}
 use Rattle.wz_words.specs.Settings.{Settings, operand_in, has_flag, has_option, values_of, renames_of, with_halves, first_value, number_of_value, asked}
 use Rattle.wz_words.specs.Faults.{number_fault, fuel_limit, sample_limit, rename_fault, value_part_fault, bytes_together, is_extra, is_repeated, is_sample_beside, fault_of, first_fault, or_later, unless_fault, settings}
 use Rattle.wz_words.specs.Draft.{Draft, empty_draft, fault_in, with_part, rename_fault_in, fault_or, outcome_from, draft_asks}
@@ -15,14 +15,14 @@ use Rattle.wz_words.specs.Draft.{Draft, empty_draft, fault_in, with_part, rename
 
 operand_joined : (before : List Part) (parts : List Part) → operand_in parts ≡ None → operand_in (before ++ parts) ≡ operand_in before
 operand_joined [] parts e = e
-operand_joined (Operand at word ∷ before) parts e = refl
+operand_joined (OperandPart at word ∷ before) parts e = refl
 operand_joined (FlagPart at flag ∷ before) parts e = operand_joined before parts e
 operand_joined (ValuedPart at option value ∷ before) parts e = operand_joined before parts e
 operand_joined (UnknownPart at ∷ before) parts e = operand_joined before parts e
 
-operand_added : (before : List Part) (at : ℕ) (word : List ℕ) → operand_in before ≡ None → operand_in (before ++ Operand at word ∷ []) ≡ Some word
+operand_added : (before : List Part) (at : ℕ) (word : List ℕ) → operand_in before ≡ None → operand_in (before ++ OperandPart at word ∷ []) ≡ Some word
 operand_added [] at word e = refl
-operand_added (Operand a w ∷ before) at word e = absurd cc
+operand_added (OperandPart a w ∷ before) at word e = absurd cc
 operand_added (FlagPart a flag ∷ before) at word e = operand_added before at word e
 operand_added (ValuedPart a option value ∷ before) at word e = operand_added before at word e
 operand_added (UnknownPart a ∷ before) at word e = operand_added before at word e
@@ -41,7 +41,7 @@ or_true false = refl
 
 flag_joined : (flag : Flag) (before parts : List Part) → has_flag flag (before ++ parts) ≡ (has_flag flag before || has_flag flag parts)
 flag_joined flag [] parts = refl
-flag_joined flag (Operand at word ∷ before) parts = flag_joined flag before parts
+flag_joined flag (OperandPart at word ∷ before) parts = flag_joined flag before parts
 flag_joined flag (FlagPart at other ∷ before) parts =
     ap (λ (b : Bool). same_flag other flag || b) (flag_joined flag before parts) ∙ or_assoc (same_flag other flag) (has_flag flag before) (has_flag flag parts)
 flag_joined flag (ValuedPart at option value ∷ before) parts = flag_joined flag before parts
@@ -49,7 +49,7 @@ flag_joined flag (UnknownPart at ∷ before) parts = flag_joined flag before par
 
 option_joined : (option : Valued) (before parts : List Part) → has_option option (before ++ parts) ≡ (has_option option before || has_option option parts)
 option_joined option [] parts = refl
-option_joined option (Operand at word ∷ before) parts = option_joined option before parts
+option_joined option (OperandPart at word ∷ before) parts = option_joined option before parts
 option_joined option (FlagPart at flag ∷ before) parts = option_joined option before parts
 option_joined option (ValuedPart at other value ∷ before) parts =
     ap (λ (b : Bool). same_valued other option || b) (option_joined option before parts) ∙ or_assoc (same_valued other option) (has_option option before) (has_option option parts)
@@ -61,7 +61,7 @@ cond_cons false x xs ys = refl
 
 values_joined : (option : Valued) (before parts : List Part) → values_of option (before ++ parts) ≡ values_of option before ++ values_of option parts
 values_joined option [] parts = refl
-values_joined option (Operand at word ∷ before) parts = values_joined option before parts
+values_joined option (OperandPart at word ∷ before) parts = values_joined option before parts
 values_joined option (FlagPart at flag ∷ before) parts = values_joined option before parts
 values_joined option (ValuedPart at other None ∷ before) parts = values_joined option before parts
 values_joined option (ValuedPart at other (Some value) ∷ before) parts =
@@ -83,7 +83,7 @@ cond_skipped false x xs n e = e
 
 no_values : (option : Valued) (parts : List Part) → has_option option parts ≡ false → values_of option parts ≡ []
 no_values option [] e = refl
-no_values option (Operand at word ∷ parts) e = no_values option parts e
+no_values option (OperandPart at word ∷ parts) e = no_values option parts e
 no_values option (FlagPart at flag ∷ parts) e = no_values option parts e
 no_values option (ValuedPart at other None ∷ parts) e = no_values option parts (or_right (same_valued other option) (has_option option parts) e)
 no_values option (ValuedPart at other (Some value) ∷ parts) e =
@@ -210,7 +210,7 @@ rename_fault_same values d at value None e f = refl
 rename_fault_same values d at value (Some halves) e f = rw (e, f) refl
 
 fault_same : (before : List Part) (d : Draft) (part : Part) → Shows before d → fault_of before part ≡ fault_in d part
-fault_same before d (Operand at word) h = rw (h.operand, h.sample.0) refl
+fault_same before d (OperandPart at word) h = rw (h.operand, h.sample.0) refl
 fault_same before d (FlagPart at KeepInit) h = rw h.keep_init refl
 fault_same before d (FlagPart at Reactor) h = rw h.reactor refl
 fault_same before d (FlagPart at Report) h = rw h.report refl
@@ -256,7 +256,7 @@ value_fault_none before at option value none =
     let later = cond (is_sample_beside before option) (Some (ExtraWord at)) (value_part_fault before at option value) in
     test_later (is_sample_beside before option) (ExtraWord at) (value_part_fault before at option value) (test_later (is_repeated before option) (RepeatedOption at) later none)
 
-no_operand : (before : List Part) (at : ℕ) (word : List ℕ) → fault_of before (Operand at word) ≡ None → operand_in before ≡ None
+no_operand : (before : List Part) (at : ℕ) (word : List ℕ) → fault_of before (OperandPart at word) ≡ None → operand_in before ≡ None
 no_operand before at word none =
     none_there (operand_in before) (or_left (is_some (operand_in before)) (has_option SampleNumber before) (test_false (is_extra before) (ExtraWord at) None none))
 
@@ -264,8 +264,8 @@ never : {X : Type 0} (at : ℕ) → (let fault : Option Usage = Some (MissingVal
 never at e = absurd cc
 
 shows_more : (before : List Part) (d : Draft) (part : Part) → Shows before d → fault_of before part ≡ None → Shows (before ++ part ∷ []) (with_part d part)
-shows_more before d (Operand at word) h none =
-    let part = Operand at word in
+shows_more before d (OperandPart at word) h none =
+    let part = OperandPart at word in
     record {
       operand = operand_added before at word (no_operand before at word none);
       keep_init = flag_kept KeepInit before part d.keep_init refl h.keep_init;

@@ -6,7 +6,7 @@ use Rattle.wz_words.specs.declared.left.WordsLeft.{WordsLeft}
 use Rattle.wz_words.specs.declared.settings.Usage.{Usage}
 use Rattle.wz_words.specs.declared.settings.Usage.TheVariants.{UnknownOption}
 use Rattle.wz_words.specs.Options.{Flag, Valued}
-use Rattle.wz_words.specs.Parts.{Part, Operand, FlagPart, ValuedPart, UnknownPart, WordKind, IsOperand, EndsOptions, IsFlag, TakesNext, HasValue, IsUnknown, kind_there, last_parts, more_parts, parts_from}
+use Rattle.wz_words.specs.Parts.{Part, OperandPart, FlagPart, ValuedPart, UnknownPart, WordKind, IsOperand, EndsOptions, IsFlag, TakesNext, HasValue, IsUnknown, kind_there, last_parts, more_parts, parts_from}
 use Rattle.wz_words.specs.Draft.{Draft, with_part, TakesPart, outcome_from, fault_or}
 use Rattle.wz_words.specs.DraftViews.{place_view}
 use Rattle.wz_words.specs.Left.{words_left}
@@ -19,7 +19,7 @@ abbrev more : Bool → ℕ → List ℕ → List ℕ → List (List ℕ) → Wor
 more ended at word next words kind = more_parts ended at word next kind (λ now. parts_from now (at + 1) (next ∷ words)) (λ now. parts_from now (at + 2) words)
 
 pub parts_operand : (ended : Bool) (at : ℕ) (word : List ℕ) (rest : List (List ℕ)) → kind_there ended word ≡ IsOperand
-    → parts_from ended at (word ∷ rest) ≡ Operand at word ∷ parts_from ended (at + 1) rest
+    → parts_from ended at (word ∷ rest) ≡ OperandPart at word ∷ parts_from ended (at + 1) rest
 parts_operand ended at word [] e = ap (last ended at word) e
 parts_operand ended at word (next ∷ words) e = ap (more ended at word next words) e
 

@@ -4,7 +4,7 @@ use Rattle.wz_words.specs.declared.settings.Rename.{Rename}
 use Rattle.wz_words.specs.declared.settings.Usage.{Usage}
 use Rattle.wz_words.specs.declared.settings.Usage.TheVariants.{UnknownOption, MissingValue, RepeatedOption, ExtraWord, BadRename, RenamesTooLong, RenameTwiceTo, RenameTwiceFrom, NoMemory}
 use Rattle.wz_words.specs.Options.{Flag, KeepInit, Reactor, Report, Valued, Output, Function, RenameFunction, Fuel, SampleNumber, decimal, is_digit}
-use Rattle.wz_words.specs.Parts.{Part, Operand, FlagPart, ValuedPart, UnknownPart, Halves, halves_of}
+use Rattle.wz_words.specs.Parts.{Part, OperandPart, FlagPart, ValuedPart, UnknownPart, Halves, halves_of}
 use Rattle.wz_words.specs.Settings.{Settings, with_halves, input_or_sample, output_of, default_function, default_fuel}
 use Rattle.wz_words.specs.Faults.{number_fault, fuel_limit, sample_limit, renames_limit, renames_to, renames_from}
 
@@ -78,7 +78,7 @@ is_sample_option Fuel = false
 is_sample_option SampleNumber = true
 
 abbrev pub fault_in : Draft → Part → Option Usage
-fault_in d (Operand at word) = if is_some d.operand || is_some d.sample then Some (ExtraWord at) else None
+fault_in d (OperandPart at word) = if is_some d.operand || is_some d.sample then Some (ExtraWord at) else None
 fault_in d (FlagPart at flag) = if flag_in d flag then Some (RepeatedOption at) else None
 fault_in d (ValuedPart at option value) =
     if is_read d option then Some (RepeatedOption at)
@@ -99,7 +99,7 @@ with_option d Fuel value = record d { fuel = decimal value }
 with_option d SampleNumber value = record d { sample = decimal value }
 
 abbrev pub with_part : Draft → Part → Draft
-with_part d (Operand at word) = record d { operand = Some word }
+with_part d (OperandPart at word) = record d { operand = Some word }
 with_part d (FlagPart at flag) = with_flag d flag
 with_part d (ValuedPart at option None) = d
 with_part d (ValuedPart at option (Some value)) = with_option d option value.1

@@ -5,7 +5,7 @@ use Rattle.wz_words.specs.declared.left.PlacedWord.{PlacedWord}
 use Rattle.wz_words.specs.declared.options.ValuedName.{ValuedName}
 use Rattle.wz_words.specs.declared.settings.Usage.{Usage}
 use Rattle.wz_words.specs.Options.{decimal}
-use Rattle.wz_words.specs.Parts.{Part, Operand, ValuedPart}
+use Rattle.wz_words.specs.Parts.{Part, OperandPart, ValuedPart}
 use Rattle.wz_words.specs.Faults.{number_fault}
 use Rattle.wz_words.specs.Views.{valued_view}
 use Rattle.wz_words.specs.Draft.{Draft, TakesPart, TakesValue}
@@ -34,7 +34,7 @@ ReadsNumber limit at text (Err usage) = number_fault at limit (decimal text) ≡
 
 -- the operand that a word is
 abbrev pub operand_part : PlacedWord → Part
-operand_part word = Operand word.at word.text.now
+operand_part word = OperandPart word.at word.text.now
 
 -- an option with the word that is its value
 abbrev pub option_part : ℕ → ValuedName → Option PlacedWord → Part

@@ -6,7 +6,7 @@ use Rattle.wz_words.specs.declared.settings.Rename.{Rename}
 use Rattle.wz_words.specs.declared.settings.Usage.{Usage}
 use Rattle.wz_words.specs.declared.settings.Usage.TheVariants.{UnknownOption, MissingValue, RepeatedOption, ExtraWord, BadNumber, BadRename, RenamesTooLong, RenameTwiceTo, RenameTwiceFrom}
 use Rattle.wz_words.specs.Options.{Valued, Output, Function, RenameFunction, Fuel, SampleNumber, same_valued, same_text, decimal}
-use Rattle.wz_words.specs.Parts.{Part, Operand, FlagPart, ValuedPart, UnknownPart, Halves, halves_of, command_parts}
+use Rattle.wz_words.specs.Parts.{Part, OperandPart, FlagPart, ValuedPart, UnknownPart, Halves, halves_of, command_parts}
 use Rattle.wz_words.specs.Settings.{Settings, operand_in, has_flag, has_option, values_of, renames_of, asked}
 
 -- ---- values
@@ -71,7 +71,7 @@ abbrev pub is_extra : List Part → Bool
 is_extra before = is_some (operand_in before) || has_option SampleNumber before
 
 abbrev pub fault_of : List Part → Part → Option Usage
-fault_of before (Operand at word) = if is_extra before then Some (ExtraWord at) else None
+fault_of before (OperandPart at word) = if is_extra before then Some (ExtraWord at) else None
 fault_of before (FlagPart at flag) = if has_flag flag before then Some (RepeatedOption at) else None
 fault_of before (ValuedPart at option value) =
     if is_repeated before option then Some (RepeatedOption at)

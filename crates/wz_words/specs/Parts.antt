@@ -5,7 +5,7 @@ use Rattle.wz_words.specs.Options.{Flag, Valued, flag_named, long_named, short_n
 
 -- a part of the command line, with the place of its word
 pub data Part : Type 0 where
-  Operand : ℕ → List ℕ → Part
+  OperandPart : ℕ → List ℕ → Part
   FlagPart : ℕ → Flag → Part
   -- the value, with the place of the word in which it stands, unless no word follows
   ValuedPart : ℕ → Valued → Option (ℕ × List ℕ) → Part
@@ -78,7 +78,7 @@ kind_there ended word = if ended then IsOperand else word_kind word
 -- and behind the next one, by whether the options have ended
 
 abbrev pub last_parts : Bool → ℕ → List ℕ → WordKind → List Part
-last_parts ended at word IsOperand = Operand at word ∷ []
+last_parts ended at word IsOperand = OperandPart at word ∷ []
 last_parts ended at word EndsOptions = []
 last_parts ended at word (IsFlag flag) = FlagPart at flag ∷ []
 last_parts ended at word (TakesNext option) = ValuedPart at option None ∷ []
@@ -86,7 +86,7 @@ last_parts ended at word (HasValue option value) = ValuedPart at option (Some (a
 last_parts ended at word IsUnknown = UnknownPart at ∷ []
 
 abbrev pub more_parts : Bool → ℕ → List ℕ → List ℕ → WordKind → (Bool → List Part) → (Bool → List Part) → List Part
-more_parts ended at word next IsOperand others behind = Operand at word ∷ others ended
+more_parts ended at word next IsOperand others behind = OperandPart at word ∷ others ended
 more_parts ended at word next EndsOptions others behind = others true
 more_parts ended at word next (IsFlag flag) others behind = FlagPart at flag ∷ others ended
 more_parts ended at word next (TakesNext option) others behind = ValuedPart at option (Some (at + 1, next)) ∷ behind ended

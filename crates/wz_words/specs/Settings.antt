@@ -7,14 +7,14 @@ use Rattle.wz_words.specs.declared.settings.OutputTo.TheVariants as output
 use Rattle.wz_words.specs.declared.settings.Rename.{Rename}
 use Rattle.wz_words.specs.declared.settings.Settings as code
 use Rattle.wz_words.specs.Options.{Flag, KeepInit, Reactor, Report, Valued, Output, Function, RenameFunction, Fuel, SampleNumber, same_flag, same_valued, same_text, decimal}
-use Rattle.wz_words.specs.Parts.{Part, Operand, FlagPart, ValuedPart, UnknownPart, Halves, halves_of}
+use Rattle.wz_words.specs.Parts.{Part, OperandPart, FlagPart, ValuedPart, UnknownPart, Halves, halves_of}
 
 -- ---- what was read
 
 -- the first of the operands
 abbrev pub operand_in : List Part → Option (List ℕ)
 operand_in [] = None
-operand_in (Operand at word ∷ parts) = Some word
+operand_in (OperandPart at word ∷ parts) = Some word
 operand_in (FlagPart at flag ∷ parts) = operand_in parts
 operand_in (ValuedPart at option value ∷ parts) = operand_in parts
 operand_in (UnknownPart at ∷ parts) = operand_in parts
@@ -23,7 +23,7 @@ operand_in (UnknownPart at ∷ parts) = operand_in parts
 abbrev pub has_flag : Flag → List Part → Bool
 has_flag flag [] = false
 has_flag flag (FlagPart at other ∷ parts) = same_flag other flag || has_flag flag parts
-has_flag flag (Operand at word ∷ parts) = has_flag flag parts
+has_flag flag (OperandPart at word ∷ parts) = has_flag flag parts
 has_flag flag (ValuedPart at option value ∷ parts) = has_flag flag parts
 has_flag flag (UnknownPart at ∷ parts) = has_flag flag parts
 
@@ -31,7 +31,7 @@ has_flag flag (UnknownPart at ∷ parts) = has_flag flag parts
 abbrev pub has_option : Valued → List Part → Bool
 has_option option [] = false
 has_option option (ValuedPart at other value ∷ parts) = same_valued other option || has_option option parts
-has_option option (Operand at word ∷ parts) = has_option option parts
+has_option option (OperandPart at word ∷ parts) = has_option option parts
 has_option option (FlagPart at flag ∷ parts) = has_option option parts
 has_option option (UnknownPart at ∷ parts) = has_option option parts
 
@@ -41,7 +41,7 @@ values_of option [] = []
 values_of option (ValuedPart at other (Some value) ∷ parts) =
     if same_valued other option then value.1 ∷ values_of option parts else values_of option parts
 values_of option (ValuedPart at other None ∷ parts) = values_of option parts
-values_of option (Operand at word ∷ parts) = values_of option parts
+values_of option (OperandPart at word ∷ parts) = values_of option parts
 values_of option (FlagPart at flag ∷ parts) = values_of option parts
 values_of option (UnknownPart at ∷ parts) = values_of option parts
 

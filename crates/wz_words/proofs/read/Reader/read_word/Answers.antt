@@ -2,7 +2,7 @@ use Rattle.std.proofs.Common.{ℕ, true, ◌∷◌, Some, sym, ap, ◌∙◌}
 use Rattle.wz_words.specs.Draft.{outcome_from}
 use Rattle.wz_words.specs.DraftViews.{draft_view}
 use Rattle.wz_words.specs.Left.{words_left}
-use Rattle.wz_words.specs.Parts.{Operand, FlagPart, ValuedPart, parts_from}
+use Rattle.wz_words.specs.Parts.{OperandPart, FlagPart, ValuedPart, parts_from}
 use Rattle.wz_words.specs.Views.{flag_view, valued_view}
 use Rattle.wz_words.proofs.PartsLaws.{parts_operand, parts_ended, parts_flag, parts_value, parts_taken, reads_part}
 use Rattle.wz_words.proofs.read.Reader.read_word.Goals as goal
@@ -13,8 +13,8 @@ returns-in-Operand-clause-reads c =
     let at = c.args.word.at in
     let word = c.args.word.text.now in
     let rest = words_left reader.left in
-    reads_part (draft_view reader.draft) (draft_view c.take_operand.new.self) (Operand at word) _ (parts_from reader.ended reader.left.at rest) c.take_operand.result
-    (parts_operand reader.ended at word rest (sym c.in-Operand.ensures) ∙ ap (λ (n : ℕ). Operand at word ∷ parts_from reader.ended n rest) (sym c.requires.place))
+    reads_part (draft_view reader.draft) (draft_view c.take_operand.new.self) (OperandPart at word) _ (parts_from reader.ended reader.left.at rest) c.take_operand.result
+    (parts_operand reader.ended at word rest (sym c.in-Operand.ensures) ∙ ap (λ (n : ℕ). OperandPart at word ∷ parts_from reader.ended n rest) (sym c.requires.place))
     c.take_operand.ensures.takes
 
 pub returns-in-EndsOptions-clause-reads : goal.returns-in-EndsOptions-clause-reads
