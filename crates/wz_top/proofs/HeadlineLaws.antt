@@ -51,11 +51,11 @@ use Rattle.wz_io.specs.World.{World, Name}
 use Rattle.wz_code.proofs.NumberLemmas.{all-from-has}
 use Rattle.wz_top.specs.Devices.{IsInputFrom, HasWritten}
 use Rattle.wz_top.specs.Words.{output_name}
-use Rattle.wz_top.specs.Asked.{Asked, Answers, Delivers, asked_by, BytesAsk, SettingsAsk, OnDone, Ran}
+use Rattle.wz_top.specs.Asked.{Asked, Says, Delivers, asked_by, BytesAsk, SettingsAsk, OnDone, Ran}
 use Rattle.wz_top.specs.declared.outcome.Outcome.{Outcome}
 use Rattle.wz_top.specs.declared.outcome.Outcome.TheVariants.{Done, Init}
 use Rattle.wz_init.specs.declared.faults.InitFault.{InitFault}
-use Rattle.wz_top.specs.Verdict.{Verdict, Refuses, Gives, order_of, stop_fault, RunComes, RunAsks, ExportsAsk, ProfileAsks, ModuleAsks, IsVerdict, IsAccepted}
+use Rattle.wz_top.specs.Verdict.{Verdict, Declines, Produces, order_of, stop_fault, RunComes, RunAsks, ExportsAsk, ProfileAsks, ModuleAsks, IsVerdict, IsAccepted}
 use Rattle.wz_top.specs.Refusals.{usage_outcome}
 use Rattle.wz_top.specs.FreshOutput.{StartsAs, OutputStartsAsReached}
 use Rattle.wz_top.specs.PreInitialised.{OnPreInitialised, export_instances, ReachesState, PreInitialised, GiveNames, IsWritten, OutputIsWritten, OutputIsPreInitialised}
@@ -292,15 +292,15 @@ module _ (typed : RunIsTyped) (written : OutputIsWritten) (starts : OutputStarts
       }
 
   abbrev verdict_bytes : Verdict → List ℕ → List ℕ
-  verdict_bytes (Gives report bytes) other = bytes
-  verdict_bytes (Refuses refusal) other = other
+  verdict_bytes (Produces report bytes) other = bytes
+  verdict_bytes (Declines refusal) other = other
 
-  no_output : (o : Option InitFault) (report : Report) (output : List ℕ) → IsSomeAnd o (λ fault. Gives report output ≡ Refuses (Init fault)) → ⊥
+  no_output : (o : Option InitFault) (report : Report) (output : List ℕ) → IsSomeAnd o (λ fault. Produces report output ≡ Declines (Init fault)) → ⊥
   no_output None report output h = h
   no_output (Some fault) report output h = absurd cc
 
   by_end : (s : Settings) (input : List ℕ) (m : Module) (k : KeptExports) (report : Report) (output : List ℕ) (end : Ready) → GiveNames s.renames
-      → length input ≤ input_limit → IsAccepted input m → kept m s ≡ Ok k → ready m (order_of s k) ≡ end → RunComes m k end (Gives report output)
+      → length input ≤ input_limit → IsAccepted input m → kept m s ≡ Ok k → ready m (order_of s k) ≡ end → RunComes m k end (Produces report output)
       → PreInitialised s input output
   by_end s input m k report output (Reached state ticks) names short accepted keeps ran comes =
       let same : rewritten m state k ≡ output = ap (λ (v : Verdict). verdict_bytes v output) (sym comes) in
@@ -312,20 +312,20 @@ module _ (typed : RunIsTyped) (written : OutputIsWritten) (starts : OutputStarts
   by_end s input m k report output NeverMade names short accepted keeps ran comes = absurd comes
 
   by_exports : (s : Settings) (input : List ℕ) (m : Module) (report : Report) (output : List ℕ) → GiveNames s.renames → length input ≤ input_limit
-      → IsAccepted input m → ExportsAsk s m (Gives report output) → PreInitialised s input output
+      → IsAccepted input m → ExportsAsk s m (Produces report output) → PreInitialised s input output
   unfolding RunAsks
   by_exports s input m report output names short accepted (inl h) = absurd (let wrong = h.2 in cc)
   by_exports s input m report output names short accepted (inr h) =
       by_end s input m h.0 report output (ready m (order_of s h.0)) names short accepted h.1 refl h.2
 
   by_profile : (s : Settings) (input : List ℕ) (m : Module) (report : Report) (output : List ℕ) → GiveNames s.renames → length input ≤ input_limit
-      → Spells input m → IsValid m → ProfileAsks s m (Gives report output) → PreInitialised s input output
+      → Spells input m → IsValid m → ProfileAsks s m (Produces report output) → PreInitialised s input output
   by_profile s input m report output names short spelled valid (inl h) = absurd (let wrong = h.2 in cc)
   by_profile s input m report output names short spelled valid (inr h) =
       by_exports s input m report output names short (record { spelled = spelled; valid = valid; inside = h.0 }) h.1
 
   by_module : (s : Settings) (input : List ℕ) (m : Module) (report : Report) (output : List ℕ) → GiveNames s.renames → length input ≤ input_limit
-      → Spells input m → ModuleAsks s m (Gives report output) → PreInitialised s input output
+      → Spells input m → ModuleAsks s m (Produces report output) → PreInitialised s input output
   by_module s input m report output names short spelled (inl h) = absurd (let wrong = h.3 in cc)
   by_module s input m report output names short spelled (inr h) = by_profile s input m report output names short spelled h.0 h.1
 
@@ -337,25 +337,25 @@ module _ (typed : RunIsTyped) (written : OutputIsWritten) (starts : OutputStarts
 -- ---- of a run that ended
 
 abbrev asked_name : Asked → Name → Name
-asked_name (Answers refusal) other = other
+asked_name (Says refusal) other = other
 asked_name (Delivers output report right) other = output
 
 abbrev asked_report : Asked → Report → Report
-asked_report (Answers refusal) other = other
+asked_report (Says refusal) other = other
 asked_report (Delivers output report right) other = report
 
 abbrev asked_bytes : Asked → List ℕ → List ℕ
-asked_bytes (Answers refusal) other = other
+asked_bytes (Says refusal) other = other
 asked_bytes (Delivers output report right) other = right
 
 verdict_asked : (target : Name) (v : Verdict) (output : Name) (report : Report) (right : List ℕ) → Delivers output report right ≡ asked_by target v
-    → (v ≡ Gives report right) × (output ≡ target)
-verdict_asked target (Refuses refusal) output report right e = absurd cc
-verdict_asked target (Gives made bytes) output report right e =
+    → (v ≡ Produces report right) × (output ≡ target)
+verdict_asked target (Declines refusal) output report right e = absurd cc
+verdict_asked target (Produces made bytes) output report right e =
     let same_report : made ≡ report = ap (λ (a : Asked). asked_report a report) (sym e) in
     let same_bytes : bytes ≡ right = ap (λ (a : Asked). asked_bytes a right) (sym e) in
     let same_output : output ≡ target = ap (λ (a : Asked). asked_name a output) e in
-    (ap (λ (r : Report). Gives r bytes) same_report ∙ ap (λ (t : List ℕ). Gives report t) same_bytes, same_output)
+    (ap (λ (r : Report). Produces r bytes) same_report ∙ ap (λ (t : List ℕ). Produces report t) same_bytes, same_output)
 
 module _ (law : OutputIsPreInitialised) where
   done_so : (s : Settings) (before now : World) (report : Report) → GiveNames s.renames → OnDone (Done report) (SettingsAsk (Ok s) before.told) before now

@@ -13,7 +13,7 @@ use Rattle.wz_init.specs.States.{state_in}
 use Rattle.wz_rewrite.specs.Output.{rewritten}
 use Rattle.wz_top.specs.Devices.{HasWritten, HoldsPrefix}
 use Rattle.wz_top.specs.Words.{output_name}
-use Rattle.wz_top.specs.Verdict.{Verdict, Gives, IsVerdict, IsRefusedBy, report_of}
+use Rattle.wz_top.specs.Verdict.{Verdict, Produces, IsVerdict, IsRefusedBy, report_of}
 use Rattle.wz_top.specs.Making.{IsRun, IsMade}
 use Rattle.wz_top.specs.declared.outcome.Report.{Report}
 use Rattle.wz_top.specs.declared.outcome.Outcome.{Outcome}
@@ -45,10 +45,10 @@ report_is s ticks pages segments count right pages-are segments-are count-is = f
 
 module _ (s : Settings) (bytes : List ℕ) (m : Module) (k : KeptExports) (store : StoreState) (ticks : ℕ) (run : IsRun s bytes m k store ticks)
     (text : List ℕ) (is : text ≡ rewritten m (state_in m store) k) (before now : World) where
-  gives : (said : Report) → said ≡ report_of (state_in m store) ticks text → IsVerdict s bytes (Gives said text)
+  gives : (said : Report) → said ≡ report_of (state_in m store) ticks text → IsVerdict s bytes (Produces said text)
   gives said said-is =
-      let same : Gives said text ≡ Gives (report_of (state_in m store) ticks (rewritten m (state_in m store) k)) (rewritten m (state_in m store) k)
-      = ap (λ (r : Report). Gives r text) said-is ∙ ap (λ (t : List ℕ). Gives (report_of (state_in m store) ticks t) t) is in
+      let same : Produces said text ≡ Produces (report_of (state_in m store) ticks (rewritten m (state_in m store) k)) (rewritten m (state_in m store) k)
+      = ap (λ (r : Report). Produces r text) said-is ∙ ap (λ (t : List ℕ). Produces (report_of (state_in m store) ticks t) t) is in
       subst (λ (v : Verdict). IsVerdict s bytes v) (sym same) (run_gives s bytes m k store ticks run)
 
   pub done_made : (said : Report) → said ≡ report_of (state_in m store) ticks text → HasWritten (output_name s.output) text before now

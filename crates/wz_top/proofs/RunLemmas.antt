@@ -13,9 +13,9 @@ use Rattle.wz_exports.specs.declared.fault.ExportFault.TheVariants as export
 use Rattle.wz_init.specs.declared.faults.InitFault.TheVariants as init
 use Rattle.wz_top.specs.Devices.{IsInputFrom, IsInputTold, HasInputFailed, HasWritten, HoldsPrefix, OnlyRead, IsReadFrom}
 use Rattle.wz_top.specs.Words.{input_name, output_name}
-use Rattle.wz_top.specs.Verdict.{Verdict, Refuses, Gives, IsVerdict, IsRefusedBy, OneVerdict}
+use Rattle.wz_top.specs.Verdict.{Verdict, Declines, Produces, IsVerdict, IsRefusedBy, OneVerdict}
 use Rattle.wz_top.specs.Making.{IsMade}
-use Rattle.wz_top.specs.Asked.{Asked, Answers, Delivers, SettingsAsk, BytesAsk, asked_by, IsTold, IsAnswer, Ran, IsComplete, IsDoneOrNoMemory, OnInputFault, OnOutputFault}
+use Rattle.wz_top.specs.Asked.{Asked, Says, Delivers, SettingsAsk, BytesAsk, asked_by, IsTold, IsAnswer, Ran, IsComplete, IsDoneOrNoMemory, OnInputFault, OnOutputFault}
 use Rattle.wz_top.specs.declared.outcome.Report.{Report}
 use Rattle.wz_top.specs.declared.outcome.Outcome.{Outcome}
 use Rattle.wz_top.specs.declared.outcome.Outcome.TheVariants.{Done, Usage, InputFault, InputTooLong, Decode, Valid, Exports, Init, OutputFault, NoMemory}
@@ -26,7 +26,7 @@ nothing_read w = record { later = omega arith; told = refl; current = inl refl }
 
 -- ---- what the bytes ask for
 
-asks_too_long : (s : Settings) (bytes : List ℕ) (asked : Asked) → input_limit < length bytes → BytesAsk s bytes asked → asked ≡ Answers InputTooLong
+asks_too_long : (s : Settings) (bytes : List ℕ) (asked : Asked) → input_limit < length bytes → BytesAsk s bytes asked → asked ≡ Says InputTooLong
 asks_too_long s bytes asked long (inl h) = h.1
 asks_too_long s bytes asked long (inr h) = absurd (omega (arith, h.0))
 
@@ -66,14 +66,14 @@ module _ (one : OneVerdict) (s : Settings) where
 
   -- a refusal by its verdict says all that is owed
   refused : (before now : World) (bytes : List ℕ) (refusal : Outcome) → IsInputFrom before.told s.input bytes → length bytes ≤ input_limit
-      → IsVerdict s bytes (Refuses refusal) → SettingsAsk (Ok s) before.told (Answers refusal)
-  refused before now bytes refusal here short is = (bytes, here, inr (short, Refuses refusal, is, refl))
+      → IsVerdict s bytes (Declines refusal) → SettingsAsk (Ok s) before.told (Says refusal)
+  refused before now bytes refusal here short is = (bytes, here, inr (short, Declines refusal, is, refl))
 
   refused_answer : (before now : World) (bytes : List ℕ) (refusal : Outcome) → IsInputFrom before.told s.input bytes → length bytes ≤ input_limit
-      → IsVerdict s bytes (Refuses refusal) → IsAnswer (Answers refusal) refusal → IsTold (Ok s) before.told → (asked : Asked) → SettingsAsk (Ok s) before.told asked
+      → IsVerdict s bytes (Declines refusal) → IsAnswer (Says refusal) refusal → IsTold (Ok s) before.told → (asked : Asked) → SettingsAsk (Ok s) before.told asked
       → IsAnswer asked refusal
   refused_answer before now bytes refusal here short is plain there asked asks =
-      subst (λ (a : Asked). IsAnswer a refusal) (sym (asks_verdict bytes asked (Refuses refusal) short is (told_asks before.told bytes asked here there asks))) plain
+      subst (λ (a : Asked). IsAnswer a refusal) (sym (asks_verdict bytes asked (Declines refusal) short is (told_asks before.told bytes asked here there asks))) plain
 
   pub ran_refused : (before now : World) (bytes : List ℕ) (refusal : Outcome) → IsInputFrom before.told s.input bytes → length bytes ≤ input_limit
       → IsRefusedBy s bytes refusal → OnlyRead before now → IsReadFrom (input_name s.input) before now → Ran refusal (Ok s) before now
@@ -115,18 +115,18 @@ holds_before output right before mid now same (inr h) = inr (h.0, h.1 ∙ ap (λ
 
 -- where an output is asked for, no refusal is
 module _ (one : OneVerdict) (s : Settings) (before mid now : World) (bytes right : List ℕ) (report : Report) (here : IsInputFrom before.told s.input bytes)
-    (short : length bytes ≤ input_limit) (is : IsVerdict s bytes (Gives report right)) (read : OnlyRead before mid) where
+    (short : length bytes ≤ input_limit) (is : IsVerdict s bytes (Produces report right)) (read : OnlyRead before mid) where
   abbrev target : Name
   target = output_name s.output
 
   asks : SettingsAsk (Ok s) before.told (Delivers target report right)
-  asks = (bytes, here, inr (short, Gives report right, is, refl))
+  asks = (bytes, here, inr (short, Produces report right, is, refl))
 
   answer : (outcome : Outcome) → IsAnswer (Delivers target report right) outcome → IsTold (Ok s) before.told → (asked : Asked) → SettingsAsk (Ok s) before.told asked
       → IsAnswer asked outcome
   answer outcome plain there asked wanted =
       subst (λ (a : Asked). IsAnswer a outcome)
-      (sym (asks_verdict one s bytes asked (Gives report right) short is (told_asks one s before.told bytes asked here there wanted))) plain
+      (sym (asks_verdict one s bytes asked (Produces report right) short is (told_asks one s before.told bytes asked here there wanted))) plain
 
   pub ran_done : HasWritten target right mid now → Ran (Done report) (Ok s) before now
   ran_done wrote = record {
@@ -166,13 +166,13 @@ module _ (one : OneVerdict) (s : Settings) (before mid : World) (bytes : List �
 -- ---- completeness
 
 named_by : Name → Asked → Name
-named_by other (Answers refusal) = other
+named_by other (Says refusal) = other
 named_by other (Delivers output report right) = output
 
 verdict_output : (target : Name) (v : Verdict) (output : Name) (report : Report) (right : List ℕ) → Delivers output report right ≡ asked_by target v → output ≡ target
 unfolding named_by
-verdict_output target (Refuses refusal) output report right e = absurd cc
-verdict_output target (Gives made bytes) output report right e = ap (named_by target) e
+verdict_output target (Declines refusal) output report right e = absurd cc
+verdict_output target (Produces made bytes) output report right e = ap (named_by target) e
 
 asked_output : (s : Settings) (told : Told) (output : Name) (report : Report) (right : List ℕ) → SettingsAsk (Ok s) told (Delivers output report right)
     → output ≡ output_name s.output

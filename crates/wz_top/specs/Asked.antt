@@ -13,29 +13,29 @@ use Rattle.wz_exports.specs.declared.fault.ExportFault.TheVariants as export
 use Rattle.wz_init.specs.declared.faults.InitFault.TheVariants as init
 use Rattle.wz_top.specs.Devices.{IsInputFrom, IsInputTold, HasInputFailed, HasWritten, HoldsPrefix, OnlyRead, IsReadFrom}
 use Rattle.wz_top.specs.Words.{input_name, output_name}
-use Rattle.wz_top.specs.Verdict.{Verdict, Refuses, Gives, IsVerdict}
+use Rattle.wz_top.specs.Verdict.{Verdict, Declines, Produces, IsVerdict}
 use Rattle.wz_top.specs.declared.outcome.Report.{Report}
 use Rattle.wz_top.specs.declared.outcome.Outcome.{Outcome}
 use Rattle.wz_top.specs.declared.outcome.Outcome.TheVariants.{Done, Usage, InputFault, InputTooLong, Decode, Valid, Exports, Init, OutputFault, NoMemory}
 
 -- an answer, or an output with its report
 pub data Asked : Type 0 where
-  Answers : Outcome → Asked
+  Says : Outcome → Asked
   Delivers : Name → Report → List ℕ → Asked
 
 abbrev pub asked_by : Name → Verdict → Asked
-asked_by output (Refuses refusal) = Answers refusal
-asked_by output (Gives report right) = Delivers output report right
+asked_by output (Declines refusal) = Says refusal
+asked_by output (Produces report right) = Delivers output report right
 
 -- An input that is longer than the limit asks for `InputTooLong`. Any other asks for what its bytes ask for.
 abbrev pub BytesAsk : Settings → List ℕ → Asked → Type 0
 BytesAsk s bytes asked =
-    ((input_limit < length bytes) × (asked ≡ Answers InputTooLong))
+    ((input_limit < length bytes) × (asked ≡ Says InputTooLong))
     ⊎ ((length bytes ≤ input_limit) × (verdict : Verdict) × IsVerdict s bytes verdict × (asked ≡ asked_by (output_name s.output) verdict))
 
 -- Words at fault ask for that answer, and settings for what their input asks for.
 abbrev pub SettingsAsk : Result Settings UsageFault → Told → Asked → Type 0
-SettingsAsk (Err fault) told asked = asked ≡ Answers (Usage fault)
+SettingsAsk (Err fault) told asked = asked ≡ Says (Usage fault)
 SettingsAsk (Ok s) told asked = (bytes : List ℕ) × IsInputFrom told s.input bytes × BytesAsk s bytes asked
 
 -- The words and the input ask for this, in the order of the run: the words, the input's length, its bytes. Where the
@@ -61,7 +61,7 @@ OnRefusal (Decode decode.NoMemory) IsAsked = ⊥
 OnRefusal (Valid valid.NoMemory) IsAsked = ⊥
 OnRefusal (Exports export.NoMemory) IsAsked = ⊥
 OnRefusal (Init init.NoMemory) IsAsked = ⊥
-OnRefusal refusal IsAsked = IsAsked (Answers refusal)
+OnRefusal refusal IsAsked = IsAsked (Says refusal)
 
 -- The input that the words name failed.
 abbrev pub InputFailed : Result Settings UsageFault → World → World → Type 0
@@ -108,7 +108,7 @@ IsTold (Ok s) told = IsInputTold told s.input
 abbrev pub IsAnswer : Asked → Outcome → Type 0
 IsAnswer asked NoMemory = ⊤
 IsAnswer asked InputFault = ⊤
-IsAnswer (Answers refusal) outcome = outcome ≡ refusal
+IsAnswer (Says refusal) outcome = outcome ≡ refusal
 IsAnswer (Delivers output report right) (Done said) = ⊤
 IsAnswer (Delivers output report right) OutputFault = ⊤
 IsAnswer (Delivers output report right) outcome = ⊥

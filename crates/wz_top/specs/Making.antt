@@ -9,7 +9,7 @@ use Rattle.wz_exports.specs.Kept.{KeptExports, kept}
 use Rattle.wz_init.specs.Ready.{IsReached}
 use Rattle.wz_top.specs.Devices.{HasWritten, HoldsPrefix}
 use Rattle.wz_top.specs.Words.{output_name}
-use Rattle.wz_top.specs.Verdict.{Gives, IsVerdict, IsRefusedBy, IsAccepted, order_of}
+use Rattle.wz_top.specs.Verdict.{Produces, IsVerdict, IsRefusedBy, IsAccepted, order_of}
 use Rattle.wz_top.specs.declared.outcome.Report.{Report}
 use Rattle.wz_top.specs.declared.outcome.Outcome.{Outcome}
 use Rattle.wz_top.specs.declared.outcome.Outcome.TheVariants.{Done, OutputFault, NoMemory}
@@ -23,9 +23,9 @@ pub record IsRun (s : Settings) (bytes : List ℕ) (m : Module) (k : KeptExports
 -- what an outcome of these steps says, by its kind
 abbrev pub IsMade : Settings → List ℕ → Outcome → World → World → Type 0
 IsMade s bytes (Done report) before now =
-    (right : List ℕ) × IsVerdict s bytes (Gives report right) × HasWritten (output_name s.output) right before now
+    (right : List ℕ) × IsVerdict s bytes (Produces report right) × HasWritten (output_name s.output) right before now
 IsMade s bytes OutputFault before now =
-    (report : Report) × (right : List ℕ) × IsVerdict s bytes (Gives report right) × HasFailed Output (output_name s.output) before now
+    (report : Report) × (right : List ℕ) × IsVerdict s bytes (Produces report right) × HasFailed Output (output_name s.output) before now
     × HoldsPrefix (output_name s.output) right before now
 IsMade s bytes NoMemory before now = now ≡ before
 IsMade s bytes refusal before now = IsRefusedBy s bytes refusal × (now ≡ before)

@@ -28,7 +28,7 @@ use Rattle.wz_rewrite.specs.Output.{rewritten, rewritten_module}
 use Rattle.wz_rewrite.specs.ValidOutput.{IsValidWith}
 use Rattle.wz_top.specs.Devices.{IsInputFrom, HasWritten}
 use Rattle.wz_top.specs.Words.{output_name}
-use Rattle.wz_top.specs.Verdict.{Gives, IsVerdict, IsAccepted, order_of}
+use Rattle.wz_top.specs.Verdict.{Produces, IsVerdict, IsAccepted, order_of}
 use Rattle.wz_top.specs.FreshOutput.{StartsAs}
 use Rattle.wz_top.specs.declared.outcome.Report.{Report}
 use Rattle.wz_top.specs.declared.outcome.Outcome.{Outcome}
@@ -108,7 +108,7 @@ OutputIsWritten = (s : Settings) (input : List ℕ) (m : Module) (k : KeptExport
 -- what bytes ask for is to have them pre-initialised
 abbrev pub OutputIsPreInitialised : Type 0
 OutputIsPreInitialised = (s : Settings) (input : List ℕ) (report : Report) (output : List ℕ) → GiveNames s.renames → length input ≤ input_limit
-    → IsVerdict s input (Gives report output) → PreInitialised s input output
+    → IsVerdict s input (Produces report output) → PreInitialised s input output
 
 -- No run is stuck: whatever stops the run of a module that is accepted, with the exports that these settings keep, it isn't for want
 -- of a rule.

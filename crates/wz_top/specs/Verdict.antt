@@ -30,8 +30,8 @@ use Rattle.wz_top.specs.declared.outcome.Outcome.TheVariants.{Usage, Decode, Val
 
 -- a refusal, or an output and its report
 pub data Verdict : Type 0 where
-  Refuses : Outcome → Verdict
-  Gives : Report → List ℕ → Verdict
+  Declines : Outcome → Verdict
+  Produces : Report → List ℕ → Verdict
 
 -- what is run of a module: its functions that were found, with the fuel of the settings
 abbrev pub order_of : Settings → KeptExports → RunOrder
@@ -59,13 +59,13 @@ report_of s ticks right = record {
 
 -- what is made of the state that was reached: the module that is written, and the report
 abbrev pub reached_verdict : Module → KeptExports → State → ℕ → Verdict
-reached_verdict m k s ticks = Gives (report_of s ticks (rewritten m s k)) (rewritten m s k)
+reached_verdict m k s ticks = Produces (report_of s ticks (rewritten m s k)) (rewritten m s k)
 
 abbrev pub RunComes : Module → KeptExports → Ready → Verdict → Type 0
 RunComes m k (Reached s ticks) verdict = verdict ≡ reached_verdict m k s ticks
-RunComes m k (StoppedIn phase stop) verdict = IsSomeAnd (stop_fault phase stop) (λ fault. verdict ≡ Refuses (Init fault))
-RunComes m k (UnfitElement index) verdict = verdict ≡ Refuses (Init (init.ElementOutOfBounds index))
-RunComes m k (UnfitData index) verdict = verdict ≡ Refuses (Init (init.DataOutOfBounds index))
+RunComes m k (StoppedIn phase stop) verdict = IsSomeAnd (stop_fault phase stop) (λ fault. verdict ≡ Declines (Init fault))
+RunComes m k (UnfitElement index) verdict = verdict ≡ Declines (Init (init.ElementOutOfBounds index))
+RunComes m k (UnfitData index) verdict = verdict ≡ Declines (Init (init.DataOutOfBounds index))
 RunComes m k NeverMade verdict = ⊥
 
 -- Instantiation and the run, behind the exports: the first cause why there is no state, or the output of the reached one.
@@ -75,25 +75,25 @@ RunAsks s m k verdict = RunComes m k (ready m (order_of s k)) verdict
 -- The exports of a module in the profile: the first fault of those that the settings name, or the kept ones.
 abbrev pub ExportsAsk : Settings → Module → Verdict → Type 0
 ExportsAsk s m verdict =
-    ((fault : ExportFault) × (kept m s ≡ Err fault) × (verdict ≡ Refuses (Exports fault)))
+    ((fault : ExportFault) × (kept m s ≡ Err fault) × (verdict ≡ Declines (Exports fault)))
     ⊎ ((k : KeptExports) × (kept m s ≡ Ok k) × RunAsks s m k verdict)
 
 -- The profile of a valid module: the first cause why it is outside, or none.
 abbrev pub ProfileAsks : Settings → Module → Verdict → Type 0
 ProfileAsks s m verdict =
-    ((cause : OutOfProfile) × IsOutside m cause × (verdict ≡ Refuses (Profile cause)))
+    ((cause : OutOfProfile) × IsOutside m cause × (verdict ≡ Declines (Profile cause)))
     ⊎ (IsInProfile m × ExportsAsk s m verdict)
 
 -- A module's validity: the first item that isn't ok, or none.
 abbrev pub ModuleAsks : Settings → Module → Verdict → Type 0
 ModuleAsks s m verdict =
-    ((part : Part) × (index : ℕ) × IsFirstInvalid m part index × (verdict ≡ Refuses (Valid (valid.Invalid part index))))
+    ((part : Part) × (index : ℕ) × IsFirstInvalid m part index × (verdict ≡ Declines (Valid (valid.Invalid part index))))
     ⊎ (IsValid m × ProfileAsks s m verdict)
 
 -- The bytes: the cause why they spell no module, or the module that they spell.
 unfoldable pub IsVerdict : Settings → List ℕ → Verdict → Type 0
 IsVerdict s bytes verdict =
-    ((fault : DecodeFault) × IsCause bytes fault × (verdict ≡ Refuses (Decode fault)))
+    ((fault : DecodeFault) × IsCause bytes fault × (verdict ≡ Declines (Decode fault)))
     ⊎ ((m : Module) × Spells bytes m × ModuleAsks s m verdict)
 
 -- bytes ask for one thing at most
@@ -114,7 +114,7 @@ IsRefusedBy s bytes (Decode decode.NoMemory) = ⊥
 IsRefusedBy s bytes (Valid valid.NoMemory) = ⊥
 IsRefusedBy s bytes (Exports export.NoMemory) = ⊥
 IsRefusedBy s bytes (Init init.NoMemory) = ⊥
-IsRefusedBy s bytes refusal = IsVerdict s bytes (Refuses refusal)
+IsRefusedBy s bytes refusal = IsVerdict s bytes (Declines refusal)
 
 -- the bytes spell this module, which is valid and in the profile
 pub record IsAccepted (bytes : List ℕ) (m : Module) : Type 0 where
