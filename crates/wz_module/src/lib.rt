@@ -6,13 +6,18 @@
 //! expressions are trees; `module_of` gives it. `specs.Sections` has the order of sections and the
 //! payload of each.
 //!
+//! What bodies, element segments and exports name of functions can be gathered in a set, for those
+//! who ask which functions are declared (section 3.4.10).
+//!
 //! What to cite:
 //! - what a call lends: its clause, by which the items are those of `module_of`;
+//! - what a call adds to a set: its clause, by `AddsFunctions` of wz_code;
 //! - that numbers of 32 bits count and name everything in a module: the ghost field `short_lists`.
 #![tactic(auto)]
 
 mod items;
 mod module;
+mod references;
 #[cfg(test)]
 mod tests;
 
@@ -21,3 +26,7 @@ pub use items::{
     ImportKind, Section, Span,
 };
 pub use module::{Module, ModuleParts};
+pub use references::{
+    add_exported_function, add_function, add_referred_in_bodies, add_referred_in_body,
+    add_referred_in_segments,
+};

@@ -1,6 +1,5 @@
 mod CheckLemmas
 mod ContextLemmas
-mod DeclaredLemmas
 mod LawLemmas
 mod ListLemmas
 mod NameLemmas

@@ -1,4 +1,4 @@
--- The functions that bodies and a whole module add to a set.
+-- The functions that the blocks of a body add to a set.
 use Rattle.std.proofs.Common.{◌≡◌, ℕ, ◌+◌, ◌<◌, ◌≤◌, List, [], ◌∷◌, ◌++◌, length, Bool, refl, sym, ap, subst, ◌∙◌, take}
 use Rattle.std.specs.Prelude.{◌||◌}
 use Rattle.std.specs.List.{flat_map}
@@ -10,13 +10,8 @@ use Rattle.wz_code.specs.BlockRule.{BlockRule}
 use Rattle.wz_code.specs.Trees.{tree_of}
 use Rattle.wz_code.specs.Walking.{in_order}
 use Rattle.wz_code.specs.References.{has_number, referred_by, referred_in, AddsFunctions}
-use Rattle.wz_code.proofs.NumberLemmas.{adds_both, adds_next, adds_all}
+use Rattle.wz_code.proofs.NumberLemmas.{adds_next, adds_all}
 use Rattle.wz_code.proofs.ReferenceLemmas.{tree-refers}
-use Rattle.wz_module.specs.Exports.{Export}
-use Rattle.wz_module.specs.Globals.{GlobalDef}
-use Rattle.wz_module.specs.Module.{Module}
-use Rattle.wz_module.specs.References.{referred_in_segment, exported_function}
-use Rattle.wz_valid.specs.DeclaredFunctions.{HaveSameNumbers, declared_in}
 
 -- blocks one behind the other
 flat-order : (blocks : Blocks) → flat_map (λ block. flat_map referred_by block) blocks ≡ flat_map referred_by (in_order blocks)
@@ -38,13 +33,3 @@ pub adds_block : (blocks : Blocks) (i : ℕ) (before middle now : List ℕ) → 
 adds_block blocks i before middle now less first second =
     adds_next (λ block. flat_map referred_by block) blocks i [] before middle now less first
     (subst (λ (block : List Instr). AddsFunctions middle now (flat_map referred_by block)) (unwrap_or-slice_get blocks i []) second)
-
--- a whole module
-pub declared_by : (m : Module) (first second third : List ℕ) → AddsFunctions [] first (flat_map (λ g. referred_in g.init) m.globals)
-    → AddsFunctions first second (flat_map referred_in_segment m.elements) → AddsFunctions second third (flat_map (λ e. exported_function e.target) m.exports)
-    → HaveSameNumbers third (declared_in m)
-declared_by m first second third globals elements exports =
-    let segments = flat_map referred_in_segment m.elements in
-    let targets = flat_map (λ (e : Export). exported_function e.target) m.exports in
-    let inits = flat_map (λ (g : GlobalDef). referred_in g.init) m.globals in
-    adds_both [] first third inits (segments ++ targets) globals (adds_both first second third segments targets elements exports)

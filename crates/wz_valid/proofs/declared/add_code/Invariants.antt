@@ -1,7 +1,0 @@
-use Rattle.std.proofs.Common.{take}
-use Rattle.std.specs.List.{flat_map}
-use Rattle.wz_code.specs.References.{AddsFunctions, referred_by}
-use Rattle.wz_valid.proofs.declared.add_code.Given as goal
-
-abbrev pub invariant-loop-instr : goal.invariant-loop-instr
-invariant-loop-instr l = AddsFunctions l.initial.declared.keys l.declared.keys (flat_map referred_by (take l.instr-index l.code))
