@@ -1,59 +1,28 @@
--- Functions that a walk, kept exports and a whole module add to a set.
-use Rattle.std.proofs.Common.{◌≡◌, ℕ, ◌+◌, ◌<◌, List, [], ◌∷◌, ◌++◌, length, Bool, true, false, refl, sym, ap, subst, ◌∙◌, take, get_or, map, not}
+-- Functions that kept exports and a whole module add to a set.
+use Rattle.std.proofs.Common.{◌≡◌, ℕ, ◌+◌, ◌<◌, List, [], ◌++◌, length, Bool, sym, ap, subst, ◌∙◌, take, get_or, map, not}
 use Rattle.std.proofs.Common.{filter, slice_get, Option, Some, None, inl, inr, unwrap_or, arith}
 use Rattle.std.specs.Prelude.{◌||◌}
 use Rattle.std.specs.List.{flat_map}
 use Rattle.std.specs.List.Sorted.{IsStrictlyIncreasing}
 use Rattle.std.specs.Ordering.{nat_cmp}
 use Rattle.std.specs.BTreeSet.{BTreeSet, contains}
-use Rattle.std.proofs.Math.Bool.{or_assoc}
 use Rattle.std.proofs.lemmas.List.Folds.{flat_map-map}
 use Rattle.std.proofs.lemmas.Option.{slice_get_cases}
 use Rattle.wz_types.specs.declared.value.Value.{Value}
-use Rattle.wz_code.specs.declared.instr.Instr.{Instr}
 use Rattle.wz_code.specs.BodyParts.{BodyParts}
-use Rattle.wz_code.specs.BlockRule.{BlockRule}
 use Rattle.wz_code.specs.Trees.{tree_of}
-use Rattle.wz_code.specs.Walking.{in_order, gathered}
-use Rattle.wz_code.specs.References.{has_number, referred_by, referred_in, AddsFunctions}
-use Rattle.wz_code.proofs.NumberLemmas.{has-append, contains-has, adds_both, adds_next}
-use Rattle.wz_code.proofs.ReferenceLemmas.{tree-refers}
+use Rattle.wz_code.specs.References.{has_number, referred_in, AddsFunctions}
+use Rattle.wz_code.proofs.NumberLemmas.{contains-has, adds_both, adds_next}
 use Rattle.wz_module.specs.Elements.{Elem}
 use Rattle.wz_module.specs.Exports.{Export}
 use Rattle.wz_module.specs.Functions.{BodyTree, body_tree_of}
+use Rattle.wz_module.specs.Views.{trees_of}
 use Rattle.wz_module.specs.Module.{Module}
 use Rattle.wz_module.specs.References.{referred_in_segment, exported_function}
 use Rattle.wz_snapshot.specs.Recorded.{RecordedState}
 use Rattle.wz_exports.specs.Kept.{KeptExports}
 use Rattle.wz_exports.specs.Undeclared.{body_refs, value_refs, refs_elsewhere, rising, undeclared_functions}
-use Rattle.wz_exports.specs.Gathered.{more_named}
 use Rattle.wz_exports.proofs.RisingLemmas.{increasing, one_list, rises, has-rising}
-
--- ---- a walk
-
-or-none : (b : Bool) → b ≡ (b || false)
-or-none true = refl
-or-none false = refl
-
--- what instructions add to those that were named
-walked : (f : ℕ) (code : List Instr) (named : ℕ → Bool) → gathered more_named code named f ≡ (named f || has_number f (flat_map referred_by code))
-walked f [] named = or-none (named f)
-walked f (instr ∷ code) named =
-    walked f code (more_named instr named)
-    ∙ or_assoc (named f) (has_number f (referred_by instr)) (has_number f (flat_map referred_by code))
-    ∙ ap (λ (b : Bool). named f || b) (sym (has-append f (referred_by instr) (flat_map referred_by code)))
-
--- a walk over a body adds what its tree refers to
-pub adds_walked : (body : BodyParts) → BlockRule body → (before now : List ℕ)
-    → (λ f. has_number f now) ≡ gathered more_named (in_order body.blocks) (λ f. has_number f before) → AddsFunctions before now (referred_in (tree_of body 0))
-adds_walked body rule before now whole f =
-    ap (λ (named : ℕ → Bool). named f) whole
-    ∙ walked f (in_order body.blocks) (λ f. has_number f before)
-    ∙ ap (λ (b : Bool). has_number f before || b) (sym (tree-refers body rule f))
-
--- one instruction adds what it names
-pub sees : (before now : List ℕ) (instr : Instr) → AddsFunctions before now (referred_by instr) → (λ f. has_number f now) ≡ more_named instr (λ f. has_number f before)
-sees before now instr adds = λ i f. adds f i
 
 -- ---- kept exports
 
@@ -83,13 +52,14 @@ no_entry entries i none less = elim (slice_get_cases entries i).1 [
 module _ (m : Module) (r : RecordedState) (k : KeptExports) where
   -- what bodies name, each once
   pub named_once : (bodies : List BodyParts) (none named : List ℕ) → none ≡ [] → map body_tree_of bodies ≡ m.bodies
-      → AddsFunctions none named (flat_map (λ body. referred_in (tree_of body 0)) bodies) → IsStrictlyIncreasing named → named ≡ rising (flat_map body_refs m.bodies)
+      → AddsFunctions none named (flat_map referred_in (trees_of bodies)) → IsStrictlyIncreasing named → named ≡ rising (flat_map body_refs m.bodies)
   named_once bodies none named empty same adds ascends =
       let refs = flat_map body_refs m.bodies in
-      let all = sym (flat_map-map body_refs body_tree_of bodies) ∙ ap (λ (bs : List BodyTree). flat_map body_refs bs) same in
+      let trees = flat_map-map referred_in (λ (body : BodyParts). tree_of body 0) bodies in
+      let all = trees ∙ sym (flat_map-map body_refs body_tree_of bodies) ∙ ap (λ (bs : List BodyTree). flat_map body_refs bs) same in
       one_list 0 named (rising refs) (increasing named ascends) (rises refs)
       (λ f. adds f
-      ∙ ap (λ (ns : List ℕ). has_number f ns || has_number f (flat_map (λ (body : BodyParts). referred_in (tree_of body 0)) bodies)) empty
+      ∙ ap (λ (ns : List ℕ). has_number f ns || has_number f (flat_map referred_in (trees_of bodies))) empty
       ∙ ap (λ (ns : List ℕ). has_number f ns) all
       ∙ sym (has-rising f refs))
 

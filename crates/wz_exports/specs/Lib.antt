@@ -4,5 +4,4 @@ pub mod Kept
 pub mod Answers
 pub mod Listed
 pub mod Undeclared
-pub mod Gathered
 pub mod Laws

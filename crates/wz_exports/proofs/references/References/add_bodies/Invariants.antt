@@ -1,8 +1,0 @@
-use Rattle.std.proofs.Common.{take}
-use Rattle.std.specs.List.{flat_map}
-use Rattle.wz_code.specs.Trees.{tree_of}
-use Rattle.wz_code.specs.References.{referred_in, AddsFunctions}
-use Rattle.wz_exports.proofs.references.References.add_bodies.Given as goal
-
-abbrev pub invariant-loop-body : goal.invariant-loop-body
-invariant-loop-body l = AddsFunctions l.initial.self.functions.keys l.self.functions.keys (flat_map (λ body. referred_in (tree_of body 0)) (take l.body-index l.bodies))

@@ -1,9 +1,0 @@
-use Rattle.std.proofs.Common.{take}
-use Rattle.std.specs.List.{flat_map}
-use Rattle.wz_code.specs.References.{AddsFunctions}
-use Rattle.wz_module.specs.Views.{elem_of}
-use Rattle.wz_module.specs.References.{referred_in_segment}
-use Rattle.wz_exports.proofs.references.References.add_segments.Given as goal
-
-abbrev pub invariant-loop-segment : goal.invariant-loop-segment
-invariant-loop-segment l = AddsFunctions l.initial.self.functions.keys l.self.functions.keys (flat_map (λ e. referred_in_segment (elem_of e)) (take l.segment-index l.segments))
