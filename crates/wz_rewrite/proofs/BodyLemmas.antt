@@ -17,10 +17,11 @@ use Rattle.wz_module.specs.Exports.{Export}
 use Rattle.wz_module.specs.Functions.{BodyTree}
 use Rattle.wz_module.specs.Module.{Module}
 use Rattle.wz_valid_code.specs.Operands.{Operands, pushed}
-use Rattle.wz_valid_code.specs.Rules.{Rule, Exchange, rule_if, Leads}
+use Rattle.wz_valid_code.specs.Rules.{Exchange, Leads}
 use Rattle.wz_valid_code.specs.Context.{Scope, Labels, scope_of, shape_type, may_refer}
 use Rattle.wz_valid_code.specs.Instructions.{rule_of}
 use Rattle.wz_valid_code.specs.Typing.{IsTyped}
+use Rattle.wz_valid_code.proofs.LawLemmas.{if-fits}
 use Rattle.wz_valid.specs.declared.faults.Part.TheVariants as part
 use Rattle.wz_valid.specs.Indices.{all_functions}
 use Rattle.wz_valid.specs.Contexts.{context_of}
@@ -37,10 +38,6 @@ use Rattle.wz_rewrite.proofs.ItemLemmas.{some-at}
 pub from-some : {X : Type 0} (o : Option X) (P : X → Type 0) (Q : Type 0) → ((x : X) → P x → Q) → IsSomeAnd o P → Q
 from-some None P Q each h = absurd h
 from-some (Some x) P Q each h = each x h
-
-if-fits : (b : Bool) (rule : Rule) (s n : Operands) → Leads (rule_if b rule) s n → IsTrue b
-if-fits true rule s n l = refl
-if-fits false rule s n l = absurd l
 
 leaf-there : (scope : Scope) (labels : Labels) (leaf : Leaf) (s n : Operands) → Leads (rule_of scope labels leaf) s n → (f : ℕ) → Has f (referred_in_leaf leaf)
     → IsTrue (is_some (slice_get scope.context.functions f))

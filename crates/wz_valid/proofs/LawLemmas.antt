@@ -27,10 +27,11 @@ use Rattle.wz_module.specs.Elements.{ElemMode, PassiveElem, ActiveElem, Declarat
 use Rattle.wz_module.specs.Module.{Module}
 use Rattle.wz_module.specs.References.{referred_in_mode, referred_in_segment, exported_function}
 use Rattle.wz_valid_code.specs.Operands.{Operands}
-use Rattle.wz_valid_code.specs.Rules.{Rule, rule_if, Leads}
+use Rattle.wz_valid_code.specs.Rules.{Leads}
 use Rattle.wz_valid_code.specs.Context.{TypingContext, may_refer}
 use Rattle.wz_valid_code.specs.ConstantInstructions.{constant_rule}
 use Rattle.wz_valid_code.specs.Typing.{LeadsToConstant, IsConstant}
+use Rattle.wz_valid_code.proofs.LawLemmas.{if-fits}
 use Rattle.wz_valid.specs.declared.faults.Part.{Part}
 use Rattle.wz_valid.specs.declared.faults.Part.TheVariants as part
 use Rattle.wz_valid.specs.declared.faults.OutOfProfile.TheVariants.{ImportKind as AnImport, MemoryTooLarge, TableTooLarge, TooManyLocals}
@@ -116,10 +117,6 @@ bodies_are_typed m number type valid here =
           some_at (slice_get m.functions number) (λ t. IsSomeAnd (slice_get m.types t) (λ signature. IsTreeTyped (context_of m) signature body)) type here h
 
 -- ---- what is named is there
-
-if-fits : (b : Bool) (rule : Rule) (s n : Operands) → Leads (rule_if b rule) s n → IsTrue b
-if-fits true rule s n l = refl
-if-fits false rule s n l = absurd l
 
 and-left : (a b : Bool) → IsTrue (a && b) → IsTrue a
 and-left true b h = refl

@@ -40,6 +40,11 @@ tree_of_blocks law scope labels body number before after rise typed =
 abbrev other_declared : Scope → List ℕ → ℕ → Scope
 other_declared scope declared imported = record scope { context = record scope.context { declared = declared; imported_globals = imported } }
 
+-- where a rule with a condition leads anywhere, the condition holds
+pub if-fits : (b : Bool) (rule : Rule) (s m : Operands) → Leads (rule_if b rule) s m → IsTrue b
+if-fits true rule s m l = refl
+if-fits false rule s m l = absurd l
+
 pub if-more : (a b : Bool) (rule : Rule) (s m : Operands) → (IsTrue a → IsTrue b) → Leads (rule_if a rule) s m → Leads (rule_if b rule) s m
 if-more true true rule s m more l = l
 if-more true false rule s m more l = let wrong : IsTrue false = more refl in absurd (cc)

@@ -1,21 +1,18 @@
 -- A constant that is typed has its width.
-use Rattle.std.proofs.Common.{ℕ, ◌<◌, ◌^◌, nat_lt, [], ◌∷◌, Bool, true, false, IsTrue, refl}
+use Rattle.std.proofs.Common.{ℕ, ◌<◌, ◌^◌, nat_lt, [], ◌∷◌}
 use Rattle.std.proofs.lemmas.Bool.{ltb-true}
 use Rattle.wz_types.specs.declared.types.ValType.{ValType}
 use Rattle.wz_types.specs.declared.types.ValType.TheVariants as valtype
 use Rattle.wz_code.specs.declared.instr.Instr.TheVariants.{I32Const, I64Const, F32Const, F64Const}
 use Rattle.wz_code.specs.Trees.{Plain, TableBranch, TypedSelect}
 use Rattle.wz_valid_code.specs.Operands.{Operands}
-use Rattle.wz_valid_code.specs.Rules.{Rule, Exchange, rule_if, Leads}
+use Rattle.wz_valid_code.specs.Rules.{Exchange, Leads}
 use Rattle.wz_valid_code.specs.Instructions.{constant_of}
 use Rattle.wz_valid_code.specs.Laws.{TypedHasWidth, ConstantHasWidth}
-
-if-held : (b : Bool) (rule : Rule) (before next : Operands) → Leads (rule_if b rule) before next → IsTrue b
-if-held true rule before next l = refl
-if-held false rule before next l = absurd l
+use Rattle.wz_valid_code.proofs.LawLemmas.{if-fits}
 
 constant-width : (type : ValType) (width bits : ℕ) (before next : Operands) → Leads (constant_of type width bits) before next → bits < 2 ^ width
-constant-width type width bits before next l = ltb-true bits (2 ^ width) (if-held (nat_lt bits (2 ^ width)) (Exchange [] (type ∷ [])) before next l)
+constant-width type width bits before next l = ltb-true bits (2 ^ width) (if-fits (nat_lt bits (2 ^ width)) (Exchange [] (type ∷ [])) before next l)
 
 pub typed_has_width : TypedHasWidth
 typed_has_width scope labels (Plain (I32Const bits)) before next l = constant-width valtype.I32 32 bits before next l
