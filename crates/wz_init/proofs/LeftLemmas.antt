@@ -25,7 +25,7 @@ use Rattle.wz_machine.specs.Entered.{entered, entered_callable, entered_body}
 use Rattle.wz_machine.specs.Replies.{put, put_inside}
 use Rattle.wz_machine.proofs.ChangeLemmas.{change_keeps}
 use Rattle.wz_machine.specs.Advance.{head_changes_table}
-use Rattle.wz_init.specs.Run.{Stop, RunEnd, Returned, Stopped, too_much, within_limits, TableWouldChange, is_granted, granted_growth, growth_value, pages_at, run_question, run_on, run_from, run_standing, run}
+use Rattle.wz_init.specs.Run.{StopReason, RunEnd, Returned, Stopped, too_much, within_limits, TableWouldChange, is_granted, granted_growth, growth_value, pages_at, run_question, run_on, run_from, run_standing, run}
 use Rattle.wz_init.specs.declared.order.Phase.{Phase}
 use Rattle.wz_init.specs.Ready.{Ready, Reached, phase_end, phases_run}
 use Rattle.wz_init.specs.Reached.{IsOwn, AreOwn, InsideOwn, TermOwn, AreOwnReferences, HoldsOwn, GlobalsFit, HasSegmentsOf, AreWithinMaxima, IsLeftOf}
@@ -242,7 +242,7 @@ answer_left : (was first : State) (on : State → Term → RunEnd) (last : State
     → IsLeftOf was first s → AnswerFine s a → run_on on left made s a ≡ Returned last fuel ticks → IsLeftOf was first last
 answer_left was first on last fuel ticks left made lead s (Next change term) h k e = by (too_much term) e
   where
-    by : (o : Option Stop) → within_limits (λ new. on (applied change s) new) term o ≡ Returned last fuel ticks → IsLeftOf was first last
+    by : (o : Option StopReason) → within_limits (λ new. on (applied change s) new) term o ≡ Returned last fuel ticks → IsLeftOf was first last
     by None e = lead (applied change s) term (left_on was first s change h k.0) k.1 e
     by (Some stop) e = absurd (cc e)
 answer_left was first on last fuel ticks left made lead s (Done values) h k e =

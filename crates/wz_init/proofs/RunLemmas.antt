@@ -11,7 +11,7 @@ use Rattle.wz_machine.specs.Next.{next}
 use Rattle.wz_machine.specs.Frames.{frame_count, local_count}
 use Rattle.wz_machine.specs.Advance.{head_changes_table, StepsOn, Reaches, ReachesEntry}
 use Rattle.wz_machine.specs.Entered.{entered}
-use Rattle.wz_init.specs.Run.{Stop, FuelIsSpent, TableWouldChange, FramesAreTooMany, LocalsAreTooMany, ImportIsCalled, Stopped, frames_limit, all_locals_limit, too_much, within_limits, run_on, run_from, run_standing, run}
+use Rattle.wz_init.specs.Run.{StopReason, FuelIsSpent, TableWouldChange, FramesAreTooMany, LocalsAreTooMany, ImportIsCalled, Stopped, frames_limit, all_locals_limit, too_much, within_limits, run_on, run_from, run_standing, run}
 use Rattle.wz_init.specs.Reached.{HoldsOwn, TermOwn}
 use Rattle.wz_init.specs.Turns.{IsWithinLimits}
 use Rattle.wz_init.proofs.FineLemmas.{AnswerFine, step_fine}
@@ -85,7 +85,7 @@ reaches_run (suc n) s after term new h within fuel ticks =
     let made : ticks + n + 1 ≡ ticks + suc n = omega arith in
     let there = reaches_within (suc n) s after term new h within in
     ap (λ (k : ℕ). run_from k ticks s term) more ∙ reaches_run n s h.0 term h.1 h.2 within (suc fuel) ticks ∙ steps_on fuel (ticks + n) h.0 after h.1 new h.3
-    ∙ ap (λ (o : Option Stop). within_limits (λ t. run_from fuel (ticks + n + 1) after t) new o) (nothing_too_much new there)
+    ∙ ap (λ (o : Option StopReason). within_limits (λ t. run_from fuel (ticks + n + 1) after t) new o) (nothing_too_much new there)
     ∙ ap (λ (k : ℕ). run_from fuel k after new) made
 
 pub entry_run : (n : ℕ) (s after : State) (term new : Term) → ReachesEntry n s term after new → IsWithinLimits term → (fuel ticks : ℕ)

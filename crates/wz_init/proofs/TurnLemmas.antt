@@ -17,7 +17,7 @@ use Rattle.wz_machine.specs.Replies.{put, put_inside}
 use Rattle.wz_machine.specs.TypedTerms.{IsMachineTyped}
 use Rattle.wz_machine.proofs.LeafLemmas.{if-both}
 use Rattle.wz_types.specs.declared.value.Value.TheVariants.{I32}
-use Rattle.wz_init.specs.Run.{Stop, FramesAreTooMany, LocalsAreTooMany, RunEnd, Returned, Stopped, TableWouldChange, StepTraps, FloatIsAsked, ImportIsCalled, too_much, within_limits, granted_growth, growth_value, run_from}
+use Rattle.wz_init.specs.Run.{StopReason, FramesAreTooMany, LocalsAreTooMany, RunEnd, Returned, Stopped, TableWouldChange, StepTraps, FloatIsAsked, ImportIsCalled, too_much, within_limits, granted_growth, growth_value, run_from}
 use Rattle.wz_code.specs.declared.numeric.NumOp.{NumOp}
 use Rattle.wz_machine.specs.declared.questions.HostTarget.TheVariants as target
 use Rattle.wz_init.specs.declared.turn.Turned.TheVariants as turned
@@ -159,7 +159,7 @@ module _ (s after : State) (stack : List Standing) (term : Term) (spares : head_
       → run_from (suc fuel) ticks s term ≡ run_from fuel (ticks + 1) after (top_term stack)
   went_run t within fuel ticks =
       run_step fuel ticks s term (Next t.0 (top_term stack)) spares t.1
-      ∙ ap (λ (o : Option Stop). within_limits (λ new. run_from fuel (ticks + 1) (applied t.0 s) new) (top_term stack) o) (nothing_too_much (top_term stack) within)
+      ∙ ap (λ (o : Option StopReason). within_limits (λ new. run_from fuel (ticks + 1) (applied t.0 s) new) (top_term stack) o) (nothing_too_much (top_term stack) within)
       ∙ ap (λ (x : State). run_from fuel (ticks + 1) x (top_term stack)) (sym t.2)
 
   pub went_beyond : IsTicked s term turned.Went after stack → (phase : Phase) (fault : InitFault) → IsBeyond (top_term stack) fault → (fuel ticks : ℕ)
@@ -173,10 +173,10 @@ module _ (s after : State) (stack : List Standing) (term : Term) (spares : head_
   went_beyond t phase fault.TableChanged h fuel ticks = absurd h
   went_beyond t phase fault.TooManyFrames h fuel ticks =
       run_step fuel ticks s term (Next t.0 (top_term stack)) spares t.1
-      ∙ ap (λ (o : Option Stop). within_limits (λ new. run_from fuel (ticks + 1) (applied t.0 s) new) (top_term stack) o) h
+      ∙ ap (λ (o : Option StopReason). within_limits (λ new. run_from fuel (ticks + 1) (applied t.0 s) new) (top_term stack) o) h
   went_beyond t phase fault.TooManyFrameLocals h fuel ticks =
       run_step fuel ticks s term (Next t.0 (top_term stack)) spares t.1
-      ∙ ap (λ (o : Option Stop). within_limits (λ new. run_from fuel (ticks + 1) (applied t.0 s) new) (top_term stack) o) h
+      ∙ ap (λ (o : Option StopReason). within_limits (λ new. run_from fuel (ticks + 1) (applied t.0 s) new) (top_term stack) o) h
   went_beyond t phase fault.NoMemory h fuel ticks = absurd h
 
   pub went_running : IsTicked s term turned.Went after stack → IsMachineTyped after stack → IsWithinLimits (top_term stack) → HoldsOwn s → TermOwn term
@@ -272,11 +272,11 @@ entry_some zero s after term new h = absurd h
 entry_some (suc made) s after term new h = omega arith
 
 module _ (made : ℕ) (s after : State) (term : Term) (stack : List Standing) (ticked : ReachesEntry made s term after (top_term stack)) (within : IsWithinLimits term) where
-  by_limits : (fuel left ticks : ℕ) (o : Option Stop) → fuel ≡ made + left → too_much (top_term stack) ≡ o
+  by_limits : (fuel left ticks : ℕ) (o : Option StopReason) → fuel ≡ made + left → too_much (top_term stack) ≡ o
       → run_from fuel ticks s term ≡ within_limits (λ t. run_from left (ticks + made) after t) (top_term stack) o
   by_limits fuel left ticks o e is =
       ap (λ (n : ℕ). run_from n ticks s term) e ∙ entry_run made s after term (top_term stack) ticked within left ticks
-      ∙ ap (λ (x : Option Stop). within_limits (λ t. run_from left (ticks + made) after t) (top_term stack) x) is
+      ∙ ap (λ (x : Option StopReason). within_limits (λ t. run_from left (ticks + made) after t) (top_term stack) x) is
 
   pub entered_run : (fuel left : ℕ) → fuel ≡ made + left → IsWithinLimits (top_term stack) → (ticks : ℕ)
       → run_from fuel ticks s term ≡ run_from left (ticks + made) after (top_term stack)

@@ -43,7 +43,7 @@ use Rattle.wz_init.specs.Instances.{Instance, ElementUnfit, DataUnfit, NoInstanc
 use Rattle.wz_init.specs.Instantiation.{fresh}
 use Rattle.wz_init.specs.Orders.{IsPlainFunction, IsPlainWhereGiven, IsRunnable}
 use Rattle.wz_init.specs.Reached.{IsOwn, AreOwnReferences, lasting_of}
-use Rattle.wz_init.specs.Run.{Stop, FuelIsSpent, TableWouldChange, FramesAreTooMany, LocalsAreTooMany, StepTraps, NoRuleFits, FloatIsAsked, ImportIsCalled, RunEnd, Returned, Stopped, frames_limit, all_locals_limit, too_much, within_limits, is_granted, granted_growth, pages_at, growth_value, run_question, run_on, run_from, run_standing, run}
+use Rattle.wz_init.specs.Run.{StopReason, FuelIsSpent, TableWouldChange, FramesAreTooMany, LocalsAreTooMany, StepTraps, NoRuleFits, FloatIsAsked, ImportIsCalled, RunEnd, Returned, Stopped, frames_limit, all_locals_limit, too_much, within_limits, is_granted, granted_growth, pages_at, growth_value, run_question, run_on, run_from, run_standing, run}
 use Rattle.wz_init.specs.Ready.{Ready, Reached, StoppedIn, UnfitElement, UnfitData, NeverMade, phase_of, phases, phase_end, phases_run, ready_from, ready}
 use Rattle.wz_init.specs.Typed.{DatasHoldBytes, FreshIsTyped, RunIsTyped, RunIsNeverStuck}
 use Rattle.wz_init.proofs.FreshLemmas.{was_allocated}
@@ -81,7 +81,7 @@ abbrev IsTermKept : State → Term → Type 0
 IsTermKept s term = IsStandingTyped (state_context s) (Runs term) × TermHolds is_own term
 
 -- why a run stops where each step has a rule
-abbrev HasRule : Stop → Type 0
+abbrev HasRule : StopReason → Type 0
 HasRule FuelIsSpent = Unit {0}
 HasRule TableWouldChange = Unit {0}
 HasRule FramesAreTooMany = Unit {0}
@@ -199,9 +199,9 @@ module _ (laws : TypingLaws) (m : Module) where
 
   limits_kept : (on : Term → RunEnd) (term : Term) → IsEndKept m (on term) → IsEndKept m (within_limits on term (too_much term))
   limits_kept on term kept =
-      if-both (λ (o : Option Stop). IsEndKept m (within_limits on term o)) (nat_lt frames_limit (frame_count term)) (Some FramesAreTooMany)
+      if-both (λ (o : Option StopReason). IsEndKept m (within_limits on term o)) (nat_lt frames_limit (frame_count term)) (Some FramesAreTooMany)
       (if nat_lt all_locals_limit (local_count term) then Some LocalsAreTooMany else None) tt
-      (if-both (λ (o : Option Stop). IsEndKept m (within_limits on term o)) (nat_lt all_locals_limit (local_count term)) (Some LocalsAreTooMany) None tt kept)
+      (if-both (λ (o : Option StopReason). IsEndKept m (within_limits on term o)) (nat_lt all_locals_limit (local_count term)) (Some LocalsAreTooMany) None tt kept)
 
   answer_kept : (on : State → Term → RunEnd) → Leads on → (fuel ticks : ℕ) (s : State) (results : List ValType) (answer : Answer) → IsTypedInstance m s
       → IsAnswerTyped s results answer → AnswerHolds is_own answer → IsEndKept m (run_on on fuel ticks s answer)

@@ -12,13 +12,13 @@ use Rattle.wz_init.specs.declared.faults.InitFault.TheVariants as fault
 use Rattle.wz_init.specs.States.{state_in}
 use Rattle.wz_init.specs.Instances.{Instance, ElementUnfit, DataUnfit, NoInstance, Fresh}
 use Rattle.wz_init.specs.Instantiation.{fresh}
-use Rattle.wz_init.specs.Run.{Stop, FuelIsSpent, TableWouldChange, FramesAreTooMany, LocalsAreTooMany, StepTraps, FloatIsAsked, ImportIsCalled, RunEnd, Returned, Stopped, run}
+use Rattle.wz_init.specs.Run.{StopReason, FuelIsSpent, TableWouldChange, FramesAreTooMany, LocalsAreTooMany, StepTraps, FloatIsAsked, ImportIsCalled, RunEnd, Returned, Stopped, run}
 
 pub data Ready : Type 0 where
   -- the state that the last function left, and the ticks of all of them
   Reached : State → ℕ → Ready
   -- the phase whose function didn't return, and why
-  StoppedIn : Phase → Stop → Ready
+  StoppedIn : Phase → StopReason → Ready
   -- the segment that didn't fit
   UnfitElement : ℕ → Ready
   UnfitData : ℕ → Ready

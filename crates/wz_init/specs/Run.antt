@@ -21,20 +21,20 @@ use Rattle.wz_machine.specs.Entered.{entered}
 use Rattle.wz_machine.specs.Replies.{put}
 
 -- why a run stops before its function has returned
-pub data Stop : Type 0 where
-  FuelIsSpent : Stop
-  TableWouldChange : Stop
-  FramesAreTooMany : Stop
-  LocalsAreTooMany : Stop
-  StepTraps : TrapKind → Stop
-  NoRuleFits : Stop
-  FloatIsAsked : NumOp → Stop
-  ImportIsCalled : ℕ → Stop
+pub data StopReason : Type 0 where
+  FuelIsSpent : StopReason
+  TableWouldChange : StopReason
+  FramesAreTooMany : StopReason
+  LocalsAreTooMany : StopReason
+  StepTraps : TrapKind → StopReason
+  NoRuleFits : StopReason
+  FloatIsAsked : NumOp → StopReason
+  ImportIsCalled : ℕ → StopReason
 
 pub data RunEnd : Type 0 where
   -- the state, the fuel that is left, and the ticks that were made
   Returned : State → ℕ → ℕ → RunEnd
-  Stopped : Stop → RunEnd
+  Stopped : StopReason → RunEnd
 
 -- ---- limits on what a step comes to: the frames that there are at one time, and the locals of all of them
 
@@ -44,13 +44,13 @@ frames_limit = 20000
 abbrev pub all_locals_limit : ℕ
 all_locals_limit = 4000000
 
-abbrev pub too_much : Term → Option Stop
+abbrev pub too_much : Term → Option StopReason
 too_much term =
     if nat_lt frames_limit (frame_count term) then Some FramesAreTooMany
     else (if nat_lt all_locals_limit (local_count term) then Some LocalsAreTooMany else None)
 
 -- the run goes on with this term, if it is within the limits
-abbrev pub within_limits : (Term → RunEnd) → Term → Option Stop → RunEnd
+abbrev pub within_limits : (Term → RunEnd) → Term → Option StopReason → RunEnd
 within_limits on term None = on term
 within_limits on term (Some stop) = Stopped stop
 

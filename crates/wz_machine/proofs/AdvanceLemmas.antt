@@ -15,8 +15,8 @@ use Rattle.wz_machine.specs.Step.{step}
 use Rattle.wz_machine.specs.Next.{Head, head_of, next}
 use Rattle.wz_machine.specs.Stacks.{CallEntry, LoopEntry, Entry, StackParts, flat_of, stacks_term, IsStacked}
 use Rattle.wz_machine.specs.Straight.{changes_table}
-use Rattle.wz_machine.specs.Strides.{Gone}
-use Rattle.wz_machine.specs.Turns.{own_of, HasNumber, JumpTurned}
+use Rattle.wz_machine.specs.Strides.{GoesOnWith}
+use Rattle.wz_machine.specs.Turns.{own_of, HasFrontNumber, JumpTurned}
 use Rattle.wz_machine.specs.declared.turn.Turn.TheVariants as turn
 use Rattle.wz_machine.specs.Contexts.{content_reduct}
 use Rattle.wz_machine.specs.Flat.{content_of}
@@ -82,7 +82,7 @@ no_table_next s [] same none =
 no_table_next s (instr ∷ rest) same none = absurd (omega (arith, none))
 
 -- a step that went on is one of a run
-pub gone_on : (bodies : List BodyParts) (s : StoreState) (before now : StackParts) (t : StoreState) → Gone (step (state_of bodies s) (stacks_term before)) s now t
+pub gone_on : (bodies : List BodyParts) (s : StoreState) (before now : StackParts) (t : StoreState) → GoesOnWith (step (state_of bodies s) (stacks_term before)) s now t
     → head_changes_table (next (stacks_term before)) ≡ false → StepsOn (state_of bodies s) (stacks_term before) (state_of bodies t) (stacks_term now)
 gone_on bodies s before now t gone spares = record {
   change = gone.change;
@@ -170,7 +170,7 @@ br_here s label rest have e none is own =
     }
 
 pub br_if_here : (s : StackParts) (label n : ℕ) (rest : List Instr) (have : ℕ) → s.top.rest ≡ BrIf label ∷ rest → label ≡ 0 → have ≡ length s.values
-    → HasNumber s n → (n ≡ 0 → ⊥) → BranchesHere s (have - 1)
+    → HasFrontNumber s n → (n ≡ 0 → ⊥) → BranchesHere s (have - 1)
 br_if_here s label n rest have e none is number ne =
     let first : s.top.rest ≡ BrIf 0 ∷ rest = e ∙ ap (λ k. BrIf k ∷ rest) none in
     record {

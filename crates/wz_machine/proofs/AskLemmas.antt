@@ -23,7 +23,8 @@ use Rattle.wz_machine.specs.Step.{code_reduct, outcome_reduct, step}
 use Rattle.wz_machine.specs.Contexts.{FrameContent, term_in, code_content}
 use Rattle.wz_machine.specs.Flat.{Opened, locals_in, own_values, layers_of, results_of, content_of, layers_in}
 use Rattle.wz_machine.specs.Stacks.{StackParts, opened_of, flat_of, stacks_term, IsStacked, last_values, first_values}
-use Rattle.wz_machine.specs.Asks.{ComesTo, HasAsked, stepped}
+use Rattle.wz_machine.specs.Asks.{ComesTo, HasAsked}
+use Rattle.wz_machine.specs.Opening.{stepped}
 use Rattle.wz_machine.specs.Standings.{AskingHost}
 use Rattle.wz_machine.specs.Turns.{own_of}
 use Rattle.wz_machine.specs.Calling.{zeroed_locals, call_in, with_call}

@@ -5,7 +5,7 @@ use Rattle.wz_types.specs.declared.value.Value.{Value}
 use Rattle.wz_code.specs.declared.instr.Instr.{Instr}
 use Rattle.wz_code.specs.BodyParts.{BodyParts, block_at}
 use Rattle.wz_machine.specs.Stacks.{CallEntry, Entry, StackParts, HasRoom, IsCallIn, IsStacked}
-use Rattle.wz_machine.specs.Asks.{stepped}
+use Rattle.wz_machine.specs.Opening.{stepped}
 use Rattle.wz_machine.specs.Calling.{zeroed_locals, call_in, with_call}
 use Rattle.wz_machine.proofs.KeptLemmas.{stacked-moved}
 

@@ -21,7 +21,7 @@ use Rattle.wz_machine.specs.Contexts.{content_reduct}
 use Rattle.wz_machine.specs.Flat.{content_of, own_values, locals_in, HasPlaces}
 use Rattle.wz_machine.specs.Stacks.{StackParts, opened_of, flat_of, stacks_term, IsStacked}
 use Rattle.wz_machine.specs.Opening.{stepped}
-use Rattle.wz_machine.specs.Turns.{own_of, arm_chosen, NoNumber, HasNumber}
+use Rattle.wz_machine.specs.Turns.{own_of, arm_chosen, NoNumber, HasFrontNumber}
 use Rattle.wz_machine.proofs.FlatLemmas.{plain_step}
 use Rattle.wz_machine.proofs.StackLemmas.{block-code}
 use Rattle.wz_machine.proofs.EntryLemmas.{sticks-step}
@@ -73,7 +73,7 @@ pub return-reduct : (st : State) (s : StackParts) (rest : List Instr) (have : �
 return-reduct st s rest have e is = front-reduct st s Return rest e ∙ ap (λ (vs : List Value). Returns vs) (own-all s have is)
 
 -- the values with a number in front
-number-own : (s : StackParts) (n have : ℕ) → HasNumber s n → have ≡ length s.values → own_values (opened_of s.top) s.values ≡ I32 n ∷ own_of s (have - 1)
+number-own : (s : StackParts) (n have : ℕ) → HasFrontNumber s n → have ≡ length s.values → own_values (opened_of s.top) s.values ≡ I32 n ∷ own_of s (have - 1)
 number-own s n have number is = own-all s (length s.values) refl ∙ number.own ∙ ap (λ (h : ℕ). I32 n ∷ own_of s (h - 1)) (sym is)
 
 taken : (label n : ℕ) (values : List Value) → (n ≡ 0 → ⊥) → br_if_step label (I32 n ∷ values) ≡ Jumps label values
@@ -81,14 +81,14 @@ taken label zero values ne = absurd (ne refl)
 taken label (suc n) values ne = refl
 
 pub br_if-reduct : (st : State) (s : StackParts) (label n : ℕ) (rest : List Instr) (have : ℕ) → s.top.rest ≡ BrIf label ∷ rest → have ≡ length s.values
-    → HasNumber s n → (n ≡ 0 → ⊥) → content_reduct st (content_of (flat_of s)) ≡ Branches label (own_of s (have - 1))
+    → HasFrontNumber s n → (n ≡ 0 → ⊥) → content_reduct st (content_of (flat_of s)) ≡ Branches label (own_of s (have - 1))
 br_if-reduct st s label n rest have e is number ne =
     front-reduct st s (BrIf label) rest e
     ∙ ap (λ (vs : List Value). outcome_reduct (locals_of s) (code_in s.top.body rest) (br_if_step label vs)) (number-own s n have number is)
     ∙ ap (λ (o : Outcome). outcome_reduct (locals_of s) (code_in s.top.body rest) o) (taken label n (own_of s (have - 1)) ne)
 
 pub br_if-passes : (st : State) (s : StackParts) (label n : ℕ) (rest : List Instr) (have : ℕ) → IsStacked s → s.top.rest ≡ BrIf label ∷ rest → have ≡ length s.values
-    → HasNumber s n → n ≡ 0 → step st (stacks_term s) ≡ Next Nothing (stacks_term (stepped s rest (have - 1)))
+    → HasFrontNumber s n → n ≡ 0 → step st (stacks_term s) ≡ Next Nothing (stacks_term (stepped s rest (have - 1)))
 br_if-passes st s label n rest have stacked e is number none =
     stepped-step st s (BrIf label) rest (Plain (BrIf label)) (I32 n ∷ own_of s (have - 1)) Nothing (have - 1) stacked e refl (omega (arith, number.within, is))
     (number-own s n have number is) (ap (λ (k : ℕ). br_if_step label (I32 k ∷ own_of s (have - 1))) none)
@@ -113,7 +113,7 @@ listed-jump None last values = refl
 listed-jump (Some label) last values = refl
 
 pub br_table-reduct : (st : State) (s : StackParts) (first count last n label : ℕ) (rest : List Instr) (have : ℕ) → s.top.rest ≡ BrTable first count last ∷ rest
-    → have ≡ length s.values → HasNumber s n → label ≡ unwrap_or (slice_get (take count (drop first s.top.body.labels)) n) last
+    → have ≡ length s.values → HasFrontNumber s n → label ≡ unwrap_or (slice_get (take count (drop first s.top.body.labels)) n) last
     → content_reduct st (content_of (flat_of s)) ≡ Branches label (own_of s (have - 1))
 br_table-reduct st s first count last n label rest have e is number named =
     let labels : List ℕ = take count (drop first s.top.body.labels) in
@@ -179,7 +179,7 @@ chosen-arm locals type first second (suc n) values rest = refl
 
 -- if, with the arms that its body has
 if-reduct : (st : State) (s : StackParts) (types : List FunctionType) (shape : Shape) (first : ℕ) (second : Option ℕ) (n : ℕ) (rest : List Instr) (have : ℕ)
-    → s.top.rest ≡ If shape first second ∷ rest → st.types ≡ types → have ≡ length s.values → HasNumber s n
+    → s.top.rest ≡ If shape first second ∷ rest → st.types ≡ types → have ≡ length s.values → HasFrontNumber s n
     → content_reduct st (content_of (flat_of s))
     ≡ if_entry (locals_of s) (block_type types shape) (tree_of s.top.body first) (arm_of (λ k. tree_of s.top.body k) second) (I32 n ∷ own_of s (have - 1)) (code_in s.top.body rest)
 if-reduct st s types shape first second n rest have e is_types is number =
@@ -190,7 +190,7 @@ if-reduct st s types shape first second n rest have e is_types is number =
     (number-own s n have number is)
 
 pub if-chosen : (st : State) (s : StackParts) (types : List FunctionType) (shape : Shape) (first : ℕ) (second : Option ℕ) (n : ℕ) (code rest : List Instr) (have : ℕ)
-    → s.top.rest ≡ If shape first second ∷ rest → st.types ≡ types → have ≡ length s.values → HasNumber s n
+    → s.top.rest ≡ If shape first second ∷ rest → st.types ≡ types → have ≡ length s.values → HasFrontNumber s n
     → code_in s.top.body code ≡ arm_chosen n (tree_of s.top.body first) (arm_of (λ k. tree_of s.top.body k) second)
     → content_reduct st (content_of (flat_of s))
     ≡ block_entry (locals_of s) (block_type types shape) None (code_in s.top.body code) (own_of s (have - 1)) (code_in s.top.body rest)

@@ -24,7 +24,8 @@ use Rattle.wz_machine.specs.Flat.{locals_in}
 use Rattle.wz_machine.specs.Stacks.{StackParts, opened_of, stacks_term, IsStacked, last_values, first_values}
 use Rattle.wz_machine.specs.Standings.{Asking, AskingFloat, AskingMemory, AskingTable, StacksWork, question_of, IsAnswerable}
 use Rattle.wz_machine.specs.Growths.{memory_growable, table_growable}
-use Rattle.wz_machine.specs.Asks.{ComesTo, HasAsked, AsksFloat, stepped, failed_growth, own_stack, top_number, top_growth}
+use Rattle.wz_machine.specs.Asks.{ComesTo, HasAsked, AsksFloat, failed_growth, own_stack, top_number, top_growth}
+use Rattle.wz_machine.specs.Opening.{stepped}
 use Rattle.wz_machine.proofs.ListLemmas.{drop-own}
 use Rattle.wz_machine.proofs.AskLemmas.{instr_comes, went_step, asked_step, stuck_step}
 

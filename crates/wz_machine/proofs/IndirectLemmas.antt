@@ -23,7 +23,8 @@ use Rattle.wz_machine.specs.Flat.{locals_in}
 use Rattle.wz_machine.specs.Stacks.{StackParts, opened_of, stacks_term, IsStacked}
 use Rattle.wz_machine.specs.Standings.{AskingHost}
 use Rattle.wz_machine.specs.Turns.{own_of}
-use Rattle.wz_machine.specs.Asks.{ComesTo, HasAsked, stepped, own_stack, top_number}
+use Rattle.wz_machine.specs.Asks.{ComesTo, HasAsked, own_stack, top_number}
+use Rattle.wz_machine.specs.Opening.{stepped}
 use Rattle.wz_machine.proofs.ListLemmas.{drop-own}
 use Rattle.wz_machine.proofs.AskLemmas.{instr_comes, trapped_step, stuck_step, args_few, comes_taken, asked_host}
 use Rattle.wz_machine.proofs.GrowAskLemmas.{number_on, number_long}

@@ -12,11 +12,11 @@ use Rattle.wz_store.specs.Changes.{range_of}
 use Rattle.wz_machine.specs.State.{state_of}
 use Rattle.wz_machine.specs.Stacks.{EntryKind, LoopEntry, Entry, StackParts, stacks_term, IsStacked, IsBlockIn, IsKindIn, AreStacked}
 use Rattle.wz_machine.specs.PlainSteps.{Site, used}
-use Rattle.wz_machine.specs.Operands.{HasNumber as IsNumberOnTop}
+use Rattle.wz_machine.specs.Operands.{HasNumber}
 use Rattle.wz_machine.specs.Straight.{Point, point, RunsTo}
 use Rattle.wz_machine.specs.Laps.{BranchesBack, Repeats, GoesBack, LapsTo}
 use Rattle.wz_machine.specs.Running.{site_of, SameApart}
-use Rattle.wz_machine.specs.Turns.{own_of, HasNumber}
+use Rattle.wz_machine.specs.Turns.{own_of, HasFrontNumber}
 use Rattle.wz_machine.specs.Landing.{IsAgain}
 use Rattle.wz_machine.specs.Advance.{StepsOn, Reaches, StaysWithin}
 use Rattle.wz_machine.proofs.AdvanceLemmas.{BranchesHere, br_here, br_if_here, begins_anew, repeats_by, within_on}
@@ -102,7 +102,7 @@ is-inner top (parent ∷ parents) again stacked loop =
     record { base = sym block.height; around = omega arith }
 
 number-at : (s : StackParts) (below between : List Value) (p : Point) (number : ℕ) → IsSplit s below between p → p.have ≤ length p.at.own
-    → IsNumberOnTop number p.have p.at.own → HasNumber (stacks_at s below between p) number
+    → HasNumber number p.have p.at.own → HasFrontNumber (stacks_at s below between p) number
 number-at s below between p number h within on =
     let size = size-at s below between p h within in
     let last : length (values_at below between p) - 1 ≡ s.top.height + (p.have - 1) = omega (arith, size, on.there) in

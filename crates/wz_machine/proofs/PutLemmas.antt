@@ -4,7 +4,7 @@ use Rattle.std.proofs.lemmas.List.{reverse-reverse, drop-take, length-take-le}
 use Rattle.wz_types.specs.declared.value.Value.{Value}
 use Rattle.wz_machine.specs.Contexts.{FrameContent, Layer, LabelLayer, FrameLayer, in_layer, term_in}
 use Rattle.wz_machine.specs.Flat.{FlatStacks, results_of, layers_in, content_of, flat_term, HasPlaces}
-use Rattle.wz_machine.specs.Stacks.{StackParts, flat_of, stacks_term, IsStacked, last_values, first_values, without, with_more}
+use Rattle.wz_machine.specs.Stacks.{StackParts, flat_of, stacks_term, IsStacked, last_values, first_values, without, with_values}
 use Rattle.wz_machine.specs.Replies.{put_inside, put}
 use Rattle.wz_machine.proofs.FlatLemmas.{leaving_term}
 
@@ -37,7 +37,7 @@ still_stacked s values is le = record {
 }
 
 pub stacks_put : (s : StackParts) (count : ℕ) (pushed : List Value) → IsStacked s → s.top.height + count ≤ length s.values
-    → stacks_term (with_more pushed (without count s)) ≡ put (reverse pushed) (stacks_term (without count s))
+    → stacks_term (with_values pushed (without count s)) ≡ put (reverse pushed) (stacks_term (without count s))
 stacks_put s count pushed is le =
     let len : length (first_values count s.values) ≡ length s.values - count = length-take-le (length s.values - count) s.values (omega arith) in
     sym (flat_put (flat_of (without count s)) pushed (record { base = is.room.base; locals = is.room.locals; height = is.room.height }) (omega (arith, len, le)))

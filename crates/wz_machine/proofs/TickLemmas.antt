@@ -21,8 +21,8 @@ use Rattle.wz_machine.specs.Stacks.{StackParts, stacks_term, last_values}
 use Rattle.wz_machine.specs.Standings.{WorkParts, ValuesWork, values_in, Asking, StandingParts, question_of, standing_of, stack_of, IsStanding}
 use Rattle.wz_machine.specs.Waiting.{below_top}
 use Rattle.wz_machine.proofs.StandingLemmas.{stack_top, stack_set}
-use Rattle.wz_machine.specs.Asks.{stepped}
-use Rattle.wz_machine.specs.Strides.{Gone, WillAsk}
+use Rattle.wz_machine.specs.Opening.{stepped}
+use Rattle.wz_machine.specs.Strides.{GoesOnWith, WillAsk}
 use Rattle.wz_machine.specs.Ticks.{asked_event, tick_event, asking_with, running, left_by, is_over, StandingTicked, TopTicked, StackTicked}
 
 answer-change : (term : Term) (below : List Standing) (answer : Answer) → (answer_reply term below answer).change ≡ (answer_reply term [] answer).change
@@ -60,7 +60,7 @@ tick-stack s (Waits question rest) below = refl
 
 -- ---- a tick of a term that runs, by what its step comes to
 
-pub ticked-went : (bodies : List BodyParts) (s t : StoreState) (before now : StackParts) → Gone (step (state_of bodies s) (stacks_term before)) s now t
+pub ticked-went : (bodies : List BodyParts) (s t : StoreState) (before now : StackParts) → GoesOnWith (step (state_of bodies s) (stacks_term before)) s now t
     → StandingTicked bodies s (running before) tick.Went (running now) t
 ticked-went bodies s t before now gone = record {
   event = ap (λ (a : Answer). (answer_reply (stacks_term before) [] a).event) (sym gone.goes);

@@ -1,5 +1,5 @@
 -- What the machine says of a step of its stacks that may ask: of a call, of growth, of a float operation.
-use Rattle.std.specs.Prelude.{◌≡◌, ◌≤◌, ℕ, ◌+◌, List, [], ◌∷◌, ◌++◌, Option, Some, None, length, take, drop, reverse}
+use Rattle.std.specs.Prelude.{◌≡◌, ◌≤◌, ℕ, ◌+◌, List, [], ◌∷◌, ◌++◌, Option, Some, None, length, drop, reverse}
 use Rattle.wz_types.specs.declared.value.Reference.{Reference}
 use Rattle.wz_types.specs.declared.value.Value.TheVariants.{I32, Ref}
 use Rattle.wz_types.specs.declared.value.Value.{Value}
@@ -21,10 +21,7 @@ use Rattle.wz_machine.specs.Flat.{locals_in, content_of}
 use Rattle.wz_machine.specs.Stacks.{StackParts, opened_of, flat_of, stacks_term, last_values, first_values, without}
 use Rattle.wz_machine.specs.Standings.{Asking, StacksWork, question_of, HasOperands, IsAnswerable}
 use Rattle.wz_machine.specs.Keeping.{asking_of}
-
--- behind an instruction: this is left of its block, and so many values stay
-abbrev pub stepped : StackParts → List Instr → ℕ → StackParts
-stepped s rest have = record { top = record s.top { rest = rest }; outer = s.outer; values = take have s.values }
+use Rattle.wz_machine.specs.Opening.{stepped}
 
 -- the term waits with this question, whose operands are so many of the last values
 pub record HasAsked (answer : Answer) (asking : Asking) (count : ℕ) (now : StackParts) : Type 0 where

@@ -157,5 +157,5 @@ abbrev pub without : ℕ → StackParts → StackParts
 without count s = record s { values = first_values count s.values }
 
 -- with these values on top, in the order of pushing
-abbrev pub with_more : List Value → StackParts → StackParts
-with_more more s = record s { values = s.values ++ more }
+abbrev pub with_values : List Value → StackParts → StackParts
+with_values more s = record s { values = s.values ++ more }

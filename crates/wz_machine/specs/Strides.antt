@@ -9,11 +9,12 @@ use Rattle.wz_machine.specs.Outcomes.{Answer, Next, Trap, Stuck}
 use Rattle.wz_machine.specs.Stacks.{StackParts, stacks_term}
 use Rattle.wz_machine.specs.Keeping.{asking_of}
 use Rattle.wz_machine.specs.Turns.{Ended}
-use Rattle.wz_machine.specs.Asks.{HasAsked, stepped}
+use Rattle.wz_machine.specs.Asks.{HasAsked}
+use Rattle.wz_machine.specs.Opening.{stepped}
 use Rattle.wz_machine.specs.Standings.{Asking}
 
 -- the term goes on, with this change of the store
-pub record Gone (answer : Answer) (s : StoreState) (now : StackParts) (t : StoreState) : Type 0 where
+pub record GoesOnWith (answer : Answer) (s : StoreState) (now : StackParts) (t : StoreState) : Type 0 where
   pub change : Change
   pub goes : answer ≡ Next change (stacks_term now)
   pub store : t ≡ applied change s
@@ -26,7 +27,7 @@ pub record WillAsk (answer : Answer) (before : StackParts) (asking : Asking) (co
 
 -- the answer that a step comes to, and the stacks and the store then; where it doesn't go on the store is as it was
 abbrev pub Strode : Answer → StoreState → StackParts → Stride → StackParts → StoreState → Type 0
-Strode answer s before stride.Went now t = Gone answer s now t
+Strode answer s before stride.Went now t = GoesOnWith answer s now t
 Strode answer s before (stride.Ends at count) now t = Ended answer before at count now × (t ≡ s)
 Strode answer s before (stride.Trapped kind) now t = (answer ≡ Trap kind) × (now ≡ before) × (t ≡ s)
 Strode answer s before stride.NoRule now t = (answer ≡ Stuck) × (now ≡ before) × (t ≡ s)

@@ -84,6 +84,6 @@ NoNumber (F64 n ∷ values) = Unit {0}
 NoNumber (Ref r ∷ values) = Unit {0}
 
 -- a number of 32 bits stands in front of what the innermost block has
-pub record HasNumber (s : StackParts) (n : ℕ) : Type 0 where
+pub record HasFrontNumber (s : StackParts) (n : ℕ) : Type 0 where
   pub own : own_of s (length s.values) ≡ I32 n ∷ own_of s (length s.values - 1)
   pub within : s.top.height + 1 ≤ length s.values

@@ -7,7 +7,8 @@ ghost use Rattle.wz_code.specs.BodyParts.{BodyParts};
 ghost use Rattle.wz_machine.specs.State.{State, state_of};
 ghost use Rattle.wz_machine.specs.Step.{step};
 ghost use Rattle.wz_machine.specs.Stacks.{stacks_term};
-ghost use Rattle.wz_machine.specs.Asks.{AskTurned, AsksFloat, stepped, failed_growth};
+ghost use Rattle.wz_machine.specs.Asks.{AskTurned, AsksFloat, failed_growth};
+ghost use Rattle.wz_machine.specs.Opening.{stepped};
 ghost use Rattle.wz_machine.specs.Asks.{top_number, top_growth};
 
 use crate::growing::{memory_room, table_room};

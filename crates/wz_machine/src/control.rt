@@ -5,7 +5,7 @@ ghost use Rattle.wz_code.specs.BodyParts.{block_at};
 ghost use Rattle.wz_code.specs.BlockRule.{IsBody};
 ghost use Rattle.wz_code.specs.Trees.{code_in, tree_of, arm_of};
 ghost use Rattle.wz_machine.specs.BlockSteps.{block_type};
-ghost use Rattle.wz_machine.specs.Turns.{TurnedAnywhere, TurnedByTypes, EntryTurned, NoNumber, HasNumber, own_of};
+ghost use Rattle.wz_machine.specs.Turns.{TurnedAnywhere, TurnedByTypes, EntryTurned, NoNumber, HasFrontNumber, own_of};
 ghost use Rattle.wz_machine.specs.Turns.{arm_chosen};
 
 use crate::stacks::{Kind, Stacks, code_of};
@@ -51,7 +51,7 @@ impl<'m> Stacks<'m> {
     #[inline]
     fn number(&self) -> Option<u32>
         ensures { MatchOption result (NoNumber (own_of self.now (length self.now.values)))
-            (λ n. HasNumber self.now n) }
+            (λ n. HasFrontNumber self.now n) }
     {
         if self.have <= self.top.height {
             return None;

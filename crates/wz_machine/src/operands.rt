@@ -1,7 +1,7 @@
 //! The operands of a question, which are the last values until it is answered.
 
 ghost use Rattle.std.specs.Prelude.{◌≡◌, ◌≤◌, ◌+◌, length, reverse, OnOk, OnErr, IsOk};
-ghost use Rattle.wz_machine.specs.Stacks.{IsStacked, stacks_term, last_values, without, with_more};
+ghost use Rattle.wz_machine.specs.Stacks.{IsStacked, stacks_term, last_values, without, with_values};
 ghost use Rattle.wz_machine.specs.Replies.{put as put_in_term};
 
 use crate::room::{make_room, put};
@@ -23,7 +23,7 @@ impl<'m> Stacks<'m> {
     #[tactic(auto, using(crate::proofs::PutLemmas::stacks_put))]
     pub fn replace(&mut self, count: usize, values: &[Value]) -> Result<(), AllocError>
         requires { self.old.top.height + count ≤ length self.old.values }
-        ensures done { OnOk result (self.new ≡ with_more values.now (without count self.old)) }
+        ensures done { OnOk result (self.new ≡ with_values values.now (without count self.old)) }
         ensures put { OnOk result (stacks_term self.new ≡
             put_in_term (reverse values.now) (stacks_term (without count self.old))) }
         ensures in_place { length values.now ≤ count → IsOk result }
@@ -35,7 +35,7 @@ impl<'m> Stacks<'m> {
 
     fn exchange(&mut self, count: usize, values: &[Value]) -> Result<(), AllocError>
         requires { self.old.top.height + count ≤ length self.old.values }
-        ensures done { OnOk result (self.new ≡ with_more values.now (without count self.old)) }
+        ensures done { OnOk result (self.new ≡ with_values values.now (without count self.old)) }
         ensures in_place { length values.now ≤ count → IsOk result }
         ensures refused { OnErr result (self.new ≡ self.old) }
         ensures stacked { IsStacked self.old }

@@ -17,7 +17,7 @@ use Rattle.wz_machine.specs.Next.{next}
 use Rattle.wz_machine.specs.CallSteps.{starting_locals}
 use Rattle.wz_machine.specs.Entered.{entered, entered_callable, entered_body}
 use Rattle.wz_machine.specs.Replies.{put, put_inside}
-use Rattle.wz_init.specs.Run.{Stop, RunEnd, Returned, Stopped, too_much, within_limits, TableWouldChange, is_granted, granted_growth, growth_value, pages_at, run_question, run_on, run_from, run_standing, run}
+use Rattle.wz_init.specs.Run.{StopReason, RunEnd, Returned, Stopped, too_much, within_limits, TableWouldChange, is_granted, granted_growth, growth_value, pages_at, run_question, run_on, run_from, run_standing, run}
 use Rattle.wz_machine.specs.Advance.{head_changes_table}
 use Rattle.wz_init.specs.declared.order.Phase.{Phase}
 use Rattle.wz_init.specs.Ready.{Ready, Reached, phase_end, phases_run}
@@ -126,7 +126,7 @@ answer_kept : (on : State → Term → RunEnd) (last : State) (fuel ticks left m
     → IsKept s → AnswerFine s a → run_on on left made s a ≡ Returned last fuel ticks → IsKept last
 answer_kept on last fuel ticks left made lead s (Next change term) h k e = by (too_much term) e
   where
-    by : (o : Option Stop) → within_limits (λ new. on (applied change s) new) term o ≡ Returned last fuel ticks → IsKept last
+    by : (o : Option StopReason) → within_limits (λ new. on (applied change s) new) term o ≡ Returned last fuel ticks → IsKept last
     by None e = lead (applied change s) term (kept_on s change h k.0) k.1 e
     by (Some stop) e = absurd (cc e)
 answer_kept on last fuel ticks left made lead s (Done values) h k e =

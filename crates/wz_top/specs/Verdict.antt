@@ -21,7 +21,7 @@ use Rattle.wz_init.specs.declared.order.RunOrder.{RunOrder}
 use Rattle.wz_init.specs.declared.order.Phase.{Phase}
 use Rattle.wz_init.specs.declared.faults.InitFault.{InitFault}
 use Rattle.wz_init.specs.declared.faults.InitFault.TheVariants as init
-use Rattle.wz_init.specs.Run.{Stop, FuelIsSpent, TableWouldChange, FramesAreTooMany, LocalsAreTooMany, StepTraps, NoRuleFits, FloatIsAsked, ImportIsCalled}
+use Rattle.wz_init.specs.Run.{StopReason, FuelIsSpent, TableWouldChange, FramesAreTooMany, LocalsAreTooMany, StepTraps, NoRuleFits, FloatIsAsked, ImportIsCalled}
 use Rattle.wz_init.specs.Ready.{Ready, Reached, StoppedIn, UnfitElement, UnfitData, NeverMade, ready}
 use Rattle.wz_rewrite.specs.Output.{rewritten}
 use Rattle.wz_top.specs.declared.outcome.Report.{Report}
@@ -38,7 +38,7 @@ abbrev pub order_of : Settings → KeptExports → RunOrder
 order_of s k = record { reactor = k.reactor; function = k.function; fuel = s.fuel }
 
 -- the answer for each reason why a run stops; no run of a valid module stops for want of a rule
-abbrev pub stop_fault : Phase → Stop → Option InitFault
+abbrev pub stop_fault : Phase → StopReason → Option InitFault
 stop_fault phase (StepTraps kind) = Some (init.Trap phase kind)
 stop_fault phase FuelIsSpent = Some init.OutOfFuel
 stop_fault phase TableWouldChange = Some init.TableChanged

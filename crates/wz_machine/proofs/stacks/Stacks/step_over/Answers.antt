@@ -1,6 +1,6 @@
 use Rattle.std.proofs.Common.{ap, subst}
 use Rattle.wz_machine.specs.Stacks.{StackParts, IsStacked}
-use Rattle.wz_machine.specs.Asks.{stepped}
+use Rattle.wz_machine.specs.Opening.{stepped}
 use Rattle.wz_machine.proofs.KeptLemmas.{kept-as, values-kept, within-kept}
 use Rattle.wz_machine.proofs.CallLemmas.{stepped-stacked}
 use Rattle.wz_machine.proofs.stacks.Stacks.step_over.Goals as goal

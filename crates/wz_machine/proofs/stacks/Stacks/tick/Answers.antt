@@ -2,7 +2,7 @@ use Rattle.std.proofs.Common.{◌≡◌, ◌∙◌, ◌≤◌, ◌-◌, length, 
 use Rattle.std.proofs.lemmas.List.{length-take-le}
 use Rattle.wz_store.specs.Changes.{range_of}
 use Rattle.wz_machine.specs.Stacks.{StackParts}
-use Rattle.wz_machine.specs.Asks.{stepped}
+use Rattle.wz_machine.specs.Opening.{stepped}
 use Rattle.wz_machine.proofs.TickLemmas.{ticked-asked, operands-last}
 use Rattle.wz_machine.proofs.stacks.Stacks.tick.Goals as goal
 
