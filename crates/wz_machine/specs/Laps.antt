@@ -9,13 +9,13 @@ use Rattle.wz_machine.specs.Stacks.{LoopEntry, Entry}
 use Rattle.wz_machine.specs.Straight.{Point, GoesOn}
 
 -- the last of so many values is a number of 32 bits other than zero
-abbrev pub IsNonzero : ℕ → List Value → Type 0
-IsNonzero have own = (number : ℕ) × HasNumber number have own × (number ≡ 0 → ⊥)
+abbrev pub ConditionHolds : ℕ → List Value → Type 0
+ConditionHolds have own = (number : ℕ) × HasNumber number have own × (number ≡ 0 → ⊥)
 
 -- the instruction branches to the innermost label
 abbrev pub BranchesBack : Instr → ℕ → List Value → Type 0
 BranchesBack (Br label) have own = label ≡ 0
-BranchesBack (BrIf label) have own = (label ≡ 0) × IsNonzero have own
+BranchesBack (BrIf label) have own = (label ≡ 0) × ConditionHolds have own
 BranchesBack instr have own = ⊥
 
 -- The innermost entry is a loop with these instructions, to which the first of the code branches; behind its values there is room for one by

@@ -5,7 +5,7 @@ ghost use Rattle.std.specs.Prelude.{◌≡◌, ◌≤◌, ◌<◌, ◌+◌, ◌-
 ghost use Rattle.wz_machine.specs.Kept.{entry_of};
 ghost use Rattle.wz_machine.specs.PlainSteps.{site};
 ghost use Rattle.wz_machine.specs.Straight.{point};
-ghost use Rattle.wz_machine.specs.Laps.{IsNonzero, BranchesBack, Repeats, LapsTo};
+ghost use Rattle.wz_machine.specs.Laps.{ConditionHolds, BranchesBack, Repeats, LapsTo};
 
 use crate::plain::operands::number_on;
 use crate::stacks::{Kind, Opened};
@@ -28,7 +28,7 @@ pub(crate) struct Halt<'m> {
 #[inline(always)]
 fn holds(own: &[Value], have: usize) -> bool
     requires { have ≤ length own.now }
-    ensures { MatchBool result (IsNonzero have own.now) (Unit {0}) }
+    ensures { MatchBool result (ConditionHolds have own.now) (Unit {0}) }
 {
     match number_on(own, have) {
         Some(number) => number != 0,

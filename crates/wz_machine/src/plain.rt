@@ -4,7 +4,9 @@
 //! They work in place, on the values of the innermost block, behind which there is room, so that
 //! none of them takes memory for the stack. Each group of the standard has a module of its own.
 
-ghost use Rattle.std.specs.Prelude.{◌≡◌, ◌<◌, length, IfOk, OnErr};
+ghost use Rattle.std.specs.Prelude.{◌≡◌, ◌<◌, ℕ, List, length, IfOk, OnErr};
+ghost use Rattle.wz_code.specs.declared.instr.Instr.TheVariants.{Access};
+ghost use Rattle.wz_code.specs.BodyParts.{BodyParts};
 ghost use Rattle.wz_machine.specs.PlainSteps.{site, PlainReply};
 
 pub(crate) mod common;
@@ -17,7 +19,7 @@ mod tables;
 mod variables;
 
 use std::alloc::AllocError;
-use wz_code::{Body, Instr, access};
+use wz_code::{Body, Instr, MemOp, access};
 use wz_linear::Linear;
 use wz_store::Store;
 use wz_types::{TrapKind, Value};
@@ -30,6 +32,29 @@ pub(crate) enum Plain {
     Trapped(TrapKind),
     NoRule,
     Special,
+}
+
+/// A load or a store, on the values of the innermost block and on the store.
+#[inline(always)]
+fn load_or_store<M: Linear>(
+    op: MemOp,
+    offset: u32,
+    memory: u32,
+    own: &mut [Value],
+    have: usize,
+    store: &mut Store<'_, M>,
+) -> Result<Plain, AllocError>
+    requires { have < length own.old }
+    ensures reply { (body : BodyParts) (align : ℕ) (locals : List Value) →
+        IfOk result (λ reply. PlainReply reply body (Access op align offset memory) have
+        (site locals own.old store.old) (site locals own.new store.new)) }
+    ensures refused { OnErr result ((own.new ≡ own.old) × (store.new ≡ store.old)) }
+{
+    if access(op).store {
+        memories::store_value(op, offset, memory, own, have, store)
+    } else {
+        Ok(memories::load(op, offset, memory, own, have, store))
+    }
 }
 
 /// Runs one plain instruction of a body, on the locals of its frame, on the values of the innermost
@@ -81,13 +106,7 @@ pub(crate) fn run_plain<M: Linear>(
             align: _,
             offset,
             memory,
-        } => {
-            if access(op).store {
-                memories::store_value(op, offset, memory, own, have, store)
-            } else {
-                Ok(memories::load(op, offset, memory, own, have, store))
-            }
-        }
+        } => load_or_store(op, offset, memory, own, have, store),
         Instr::MemorySize(memory) => Ok(memories::memory_size(memory, own, have, store)),
         Instr::MemoryFill(memory) => memories::memory_fill(memory, own, have, store),
         Instr::MemoryCopy { to, from } => memories::memory_copy(to, from, own, have, store),
@@ -97,26 +116,15 @@ pub(crate) fn run_plain<M: Linear>(
         Instr::DataDrop(segment) => Ok(memories::data_drop(segment, own, have, store)),
         Instr::Nop => Ok(Plain::Went(have)),
         Instr::Unreachable => Ok(Plain::Trapped(TrapKind::Unreachable)),
-        Instr::Block { shape: _, body: _ }
-        | Instr::Loop { shape: _, body: _ }
-        | Instr::If {
-            shape: _,
-            yes: _,
-            no: _,
-        }
+        Instr::Block { .. }
+        | Instr::Loop { .. }
+        | Instr::If { .. }
         | Instr::Br(_)
         | Instr::BrIf(_)
-        | Instr::BrTable {
-            first: _,
-            count: _,
-            last: _,
-        }
+        | Instr::BrTable { .. }
         | Instr::Return
         | Instr::Call(_)
-        | Instr::CallIndirect {
-            signature: _,
-            table: _,
-        }
+        | Instr::CallIndirect { .. }
         | Instr::TableGrow(_)
         | Instr::MemoryGrow(_) => Ok(Plain::Special),
     }

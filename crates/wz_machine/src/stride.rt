@@ -117,35 +117,23 @@ impl<'m> Stacks<'m> {
     {
         let types = store.types();
         match instr {
-            Instr::Block { shape, body } => {
-                let turn = self.block(types, shape, body, rest)?;
-                Ok(of_turn(turn))
-            }
-            Instr::Loop { shape, body } => {
-                let turn = self.begin_loop(types, shape, body, rest)?;
-                Ok(of_turn(turn))
-            }
-            Instr::If { shape, yes, no } => {
-                let turn = self.choose(types, shape, yes, no, rest)?;
-                Ok(of_turn(turn))
-            }
+            Instr::Block { shape, body } => Ok(of_turn(self.block(types, shape, body, rest)?)),
+            Instr::Loop { shape, body } => Ok(of_turn(self.begin_loop(types, shape, body, rest)?)),
+            Instr::If { shape, yes, no } => Ok(of_turn(self.choose(types, shape, yes, no, rest)?)),
             Instr::Br(label) => Ok(of_turn(self.br(label, rest))),
             Instr::BrIf(label) => Ok(of_turn(self.br_if(label, rest))),
             Instr::BrTable { first, count, last } => {
                 Ok(of_turn(self.br_table(first, count, last, rest)))
             }
             Instr::Return => Ok(of_turn(self.return_back(rest))),
-            Instr::Call(function) => {
-                let turn = self.call(rest, function, bodies, store)?;
-                Ok(of_asking(turn, rest))
-            }
+            Instr::Call(function) => Ok(of_asking(self.call(rest, function, bodies, store)?, rest)),
             Instr::MemoryGrow(memory) => Ok(of_asking(self.memory_grow(rest, memory, store), rest)),
             Instr::TableGrow(table) => Ok(of_asking(self.table_grow(rest, table, store), rest)),
             Instr::Num(op) => Ok(of_asking(self.ask_float(rest, op, operand_count(op)), rest)),
-            Instr::CallIndirect { signature, table } => {
-                let turn = self.call_indirect(rest, signature, table, bodies, store)?;
-                Ok(of_asking(turn, rest))
-            }
+            Instr::CallIndirect { signature, table } => Ok(of_asking(
+                self.call_indirect(rest, signature, table, bodies, store)?,
+                rest,
+            )),
             Instr::Unreachable
             | Instr::Nop
             | Instr::RefNull(_)

@@ -9,8 +9,8 @@ ghost use Rattle.wz_machine.specs.Tried.{HasGone, ZeroTaken, PlainTried};
 ghost use Rattle.wz_machine.specs.Straight.{changes_table};
 
 use crate::plain::operands::number_on;
-use crate::plain::{Plain, memories, numeric, parametric, variables};
-use wz_code::{Instr, MemOp, access};
+use crate::plain::{Plain, load_or_store, numeric, parametric, variables};
+use wz_code::{Instr, MemOp};
 use wz_linear::Linear;
 use wz_store::Store;
 use wz_types::Value;
@@ -58,13 +58,9 @@ fn access_by<M: Linear>(
     ensures { (align : ℕ) (locals : List Value) → PlainTried result (Access op align offset memory)
         have.old have.new (site locals own.old store.old) (site locals own.new store.new) }
 {
-    if access(op).store {
-        match memories::store_value(op, offset, memory, own, *have, store) {
-            Ok(reply) => has_gone(reply, have),
-            Err(_) => false,
-        }
-    } else {
-        has_gone(memories::load(op, offset, memory, own, *have, store), have)
+    match load_or_store(op, offset, memory, own, *have, store) {
+        Ok(reply) => has_gone(reply, have),
+        Err(_) => false,
     }
 }
 

@@ -1,9 +1,8 @@
 -- Each instruction of the tables, by what the code of its group answers.
-use Rattle.std.proofs.Common.{◌≡◌, true, false, if◌then◌else◌, length, slice_get, refl, ap, arith}
+use Rattle.std.proofs.Common.{length, slice_get, refl, ap, arith}
 use Rattle.std.proofs.lemmas.List.{length-map}
 use Rattle.wz_types.specs.declared.value.Value.TheVariants.{I32, I64, F32, F64}
-use Rattle.wz_code.specs.declared.instr.Instr.TheVariants.{Nop, RefNull, RefIsNull, RefFunc, Drop, Select, SelectTyped, LocalGet, GlobalGet, GlobalSet, TableGet, TableSet, TableInit, ElemDrop, TableCopy, TableSize, TableFill, Access, MemorySize, MemoryInit, DataDrop, MemoryCopy, MemoryFill, I32Const, I64Const, F32Const, F64Const}
-use Rattle.wz_code.specs.Accesses.{shape_of}
+use Rattle.wz_code.specs.declared.instr.Instr.TheVariants.{Nop, RefNull, RefIsNull, RefFunc, Drop, Select, SelectTyped, LocalGet, GlobalGet, GlobalSet, TableGet, TableSet, TableInit, ElemDrop, TableCopy, TableSize, TableFill, MemorySize, MemoryInit, DataDrop, MemoryCopy, MemoryFill, I32Const, I64Const, F32Const, F64Const}
 use Rattle.wz_machine.specs.declared.plain.Plain.TheVariants.{Went}
 use Rattle.wz_machine.specs.State.{state_of, instance_of}
 use Rattle.wz_machine.specs.Outcomes.{Does}
@@ -12,7 +11,7 @@ use Rattle.wz_machine.specs.ReferenceSteps.{ref_null_step, ref_is_null_step, ref
 use Rattle.wz_machine.specs.ParametricSteps.{drop_step, select_step}
 use Rattle.wz_machine.specs.VariableSteps.{local_get_step, global_get_step, global_set_step}
 use Rattle.wz_machine.specs.TableSteps.{table_get_step, table_set_step, table_size_step, table_fill_step, table_copy_step, table_init_step, elem_drop_step}
-use Rattle.wz_machine.specs.MemorySteps.{load_step, store_step, memory_size_step, memory_fill_step, memory_copy_step, memory_init_step, data_drop_step}
+use Rattle.wz_machine.specs.MemorySteps.{memory_size_step, memory_fill_step, memory_copy_step, memory_init_step, data_drop_step}
 use Rattle.wz_machine.specs.ControlSteps.{nop_step}
 use Rattle.wz_machine.specs.PlainSteps.{used}
 use Rattle.wz_machine.proofs.ReplyLemmas.{of_values, of_store, of_store_if, of_number}
@@ -149,20 +148,9 @@ returns-in-DataDrop-clause-reply g c =
     of_store c.data_drop.result c.args.body.now c.args.instr.now (DataDrop c.in-DataDrop.segment) (data_drop_step c.in-DataDrop.segment (slice_get c.args.store.now.datas c.in-DataDrop.segment) (used c.args.have c.args.own.now)) c.args.have c.args.locals.now c.args.own.now c.args.store.now
     c.data_drop.new.store c.in-DataDrop.is (λ rest. refl) (λ bodies. refl) c.data_drop.ensures
 
-pub returns-then-access-clause-reply : goal.returns-then-access-clause-reply
-returns-then-access-clause-reply g c =
-    let stores : (shape_of c.in-Access.op).store ≡ true = cc (c.access.ensures, c.if-access.true) in
-    of_store_if c.store_value.result c.args.body.now c.args.instr.now (Access c.in-Access.op c.in-Access.align c.in-Access.offset c.in-Access.memory)
-    (store_step (shape_of c.in-Access.op) c.in-Access.offset c.in-Access.memory (slice_get c.args.store.now.memories c.in-Access.memory) (used c.args.have c.args.own.now)) c.args.have c.args.locals.now c.args.own.now c.args.store.now
-    c.store_value.new.store c.in-Access.is (λ rest. refl)
-    (λ bodies. ap (λ b. Does (if b then store_step (shape_of c.in-Access.op) c.in-Access.offset c.in-Access.memory (slice_get c.args.store.now.memories c.in-Access.memory) (used c.args.have c.args.own.now) else load_step (shape_of c.in-Access.op) c.in-Access.offset (slice_get c.args.store.now.memories c.in-Access.memory) (used c.args.have c.args.own.now))) stores) c.store_value.ensures.reply
-
-pub returns-else-access-clause-reply : goal.returns-else-access-clause-reply
-returns-else-access-clause-reply g c =
-    let loads : (shape_of c.in-Access.op).store ≡ false = cc (c.access.ensures, c.if-access.false) in
-    of_values c.load.result c.args.body.now c.args.instr.now (Access c.in-Access.op c.in-Access.align c.in-Access.offset c.in-Access.memory)
-    (λ bodies. load_step (shape_of c.in-Access.op) c.in-Access.offset (slice_get c.args.store.now.memories c.in-Access.memory) (used c.args.have c.args.own.now)) c.args.have c.args.locals.now c.args.own.now c.load.new.own c.args.store.now c.in-Access.is
-    (λ rest. refl) (λ bodies. ap (λ b. Does (if b then store_step (shape_of c.in-Access.op) c.in-Access.offset c.in-Access.memory (slice_get c.args.store.now.memories c.in-Access.memory) (used c.args.have c.args.own.now) else load_step (shape_of c.in-Access.op) c.in-Access.offset (slice_get c.args.store.now.memories c.in-Access.memory) (used c.args.have c.args.own.now))) loads) (λ bodies. c.load.ensures)
+pub returns-in-Access-clause-reply : goal.returns-in-Access-clause-reply
+returns-in-Access-clause-reply g c =
+    rw c.in-Access.is (c.load_or_store.ensures.reply c.args.body.now c.in-Access.align c.args.locals.now)
 
 pub returns-in-Nop-clause-reply : goal.returns-in-Nop-clause-reply
 returns-in-Nop-clause-reply g c =
